@@ -1,0 +1,6 @@
+pub mod ListLaws
+pub mod ByteLaws
+pub mod ChunkLaws
+pub mod PutLaws
+pub mod OrderLaws
+pub mod TableLaws

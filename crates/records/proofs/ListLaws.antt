@@ -1,0 +1,164 @@
+-- Laws of sums, greatest values, choices and claims about all, over any list.
+use mathlib.Core.Path.{_≡_, refl, sym, ap}
+use mathlib.Core.Bool.{Bool, true, false, cond, not, _&&_, and-eq-true-iff}
+use mathlib.Core.Logic.{_⊎_, inl, inr, ⊎-elim}
+use mathlib.Core.List.{List, [], _∷_, _++_, List·Memᴰ, List·Memᴰ·head, List·Memᴰ·tail}
+use Prim.Native.Nat.{ℕ, zero, suc, _+_, _*_, _-_, _≤_, _<_, max}
+use native.Mathlib.Nat.{le-trans, le-max-left, le-max-right}
+use native.Mathlib.Decide.{decLe}
+use native.Mathlib.Omega.{arith}
+use lib.ListN.{length}
+use Rattle.records.specs.Lists.{only, sum, most, least, keep, allb, All, total}
+
+pub only-split : (b : Bool) (n : ℕ) → n ≡ only b n + only (not b) n
+only-split true n = omega arith
+only-split false n = omega arith
+
+module _ {A : Type 0} where
+  pub all-map : {P Q : A → Type 0} (l : List A) → ((x : A) → P x → Q x) → All P l → All Q l
+  all-map [] f a = tt
+  all-map (x ∷ xs) f a = (f x (a .0), all-map xs f (a .1))
+
+  pub all-zip : {P Q R : A → Type 0} (l : List A) → ((x : A) → P x → Q x → R x) → All P l → All Q l → All R l
+  all-zip [] f a b = tt
+  all-zip (x ∷ xs) f a b = (f x (a .0) (b .0), all-zip xs f (a .1) (b .1))
+
+  pub every : {P : A → Type 0} (l : List A) → ((x : A) → P x) → All P l
+  every [] f = tt
+  every (x ∷ xs) f = (f x, every xs f)
+
+  -- c times a sum is a times another and b times a third, where that holds at each element
+  pub sum-lin : (c a b : ℕ) (f g h : A → ℕ) (l : List A) → All (λ x. c * f x ≡ a * g x + b * h x) l → c * sum f l ≡ a * sum g l + b * sum h l
+  unfolding sum
+  sum-lin c a b f g h [] e = omega arith
+  sum-lin c a b f g h (x ∷ xs) e = omega (arith, e .0, sum-lin c a b f g h xs (e .1))
+
+  pub sum-none : (f : A → ℕ) (n : ℕ) → sum f [] ≤ n
+  unfolding sum
+  sum-none f n = omega arith
+
+  pub most-all : (f : A → ℕ) (l : List A) → All (λ x. f x ≤ most f l) l
+  unfolding most
+  most-all f [] = tt
+  most-all f (x ∷ xs) = (le-max-left _ _, all-map xs (λ y h. le-trans h (le-max-right _ _)) (most-all f xs))
+
+  pub most-hit : (f : A → ℕ) (l : List A) (m : ℕ) → m < most f l → (x : A) × List·Memᴰ x l × (m < f x)
+  unfolding most
+  most-hit f [] m h = absurd (omega arith)
+  most-hit f (x ∷ xs) m h =
+      elim (decLe (suc m) (f x)) [
+        | yes k ↦ (x, List·Memᴰ·head refl, k)
+        | no k ↦ let r = most-hit f xs m (omega arith) in (r .0, List·Memᴰ·tail (r .1), r .2)
+      ]
+
+  pub sum-ext : (f g : A → ℕ) (l : List A) → All (λ x. f x ≡ g x) l → sum f l ≡ sum g l
+  unfolding sum
+  sum-ext f g [] e = refl
+  sum-ext f g (x ∷ xs) e = omega (arith, e .0, sum-ext f g xs (e .1))
+
+  pub sum-keep : (f : A → ℕ) (t : A → Bool) (l : List A) → sum f (keep t l) ≡ sum (λ x. only (t x) (f x)) l
+  unfolding sum keep
+  sum-keep f t [] = refl
+  sum-keep f t (x ∷ xs) = go (t x) (sum-keep f t xs)
+    where
+      go : (b : Bool) → sum f (keep t xs) ≡ sum (λ x. only (t x) (f x)) xs → sum f (cond b (x ∷ keep t xs) (keep t xs)) ≡ only b (f x) + sum (λ x. only (t x) (f x)) xs
+      go true e = omega arith
+      go false e = omega arith
+
+  -- those that pass a test, and the rest
+  pub sum-split : (f : A → ℕ) (t : A → Bool) (l : List A) → sum f l ≡ sum (λ x. only (t x) (f x)) l + sum f (keep (λ x. not (t x)) l)
+  sum-split f t l =
+      omega (
+        arith,
+        sum-keep f (λ x. not (t x)) l,
+        sum-lin 1 1 1 f (λ x. only (t x) (f x)) (λ x. only (not (t x)) (f x)) l
+            (every l (λ x. omega (arith, only-split (t x) (f x)))),
+      )
+
+  pub all-keep : (P : A → Type 0) (t : A → Bool) (l : List A) → All P l → All P (keep t l)
+  unfolding keep
+  all-keep P t [] a = tt
+  all-keep P t (x ∷ xs) a = go (t x) (all-keep P t xs (a .1))
+    where
+      go : (b : Bool) → All P (keep t xs) → All P (cond b (x ∷ keep t xs) (keep t xs))
+      go true r = (a .0, r)
+      go false r = r
+
+  pub length-keep : (t : A → Bool) (l : List A) → length (keep t l) ≤ length l
+  unfolding keep
+  length-keep t [] = omega arith
+  length-keep t (x ∷ xs) = go (t x) (length-keep t xs)
+    where
+      go : (b : Bool) → length (keep t xs) ≤ length xs → length (cond b (x ∷ keep t xs) (keep t xs)) ≤ suc (length xs)
+      go true e = omega arith
+      go false e = omega arith
+
+  pub keep-first : (t : A → Bool) (x : A) (l : List A) → t x ≡ false → keep t (x ∷ l) ≡ keep t l
+  unfolding keep
+  keep-first t x l e = rw e
+
+  -- ---- one element more
+
+  pub sum-step : (f : A → ℕ) (x : A) (l ls : List A) → l ≡ x ∷ ls → sum f l ≡ f x + sum f ls
+  unfolding sum
+  sum-step f x l ls e = rw e
+
+  pub sum-over : (f : A → ℕ) (l : List A) → l ≡ [] → sum f l ≡ 0
+  unfolding sum
+  sum-over f l e = rw e
+
+  pub sum-append : (f : A → ℕ) (a b : List A) → sum f (a ++ b) ≡ sum f a + sum f b
+  unfolding sum
+  sum-append f [] b = omega arith
+  sum-append f (x ∷ a) b = omega (arith, sum-append f a b)
+
+  pub sum-bound : (f : A → ℕ) (b : ℕ) (l : List A) → All (λ x. f x ≤ b) l → sum f l ≤ b * length l
+  unfolding sum
+  sum-bound f b [] a = omega arith
+  sum-bound f b (x ∷ xs) a = omega (arith, a .0, sum-bound f b xs (a .1))
+
+  -- the greatest over those that pass is the greatest over all, where the others count 0
+  pub most-keep : (f : A → ℕ) (t : A → Bool) (l : List A) → most f (keep t l) ≡ most (λ x. only (t x) (f x)) l
+  unfolding most keep
+  most-keep f t [] = refl
+  most-keep f t (x ∷ xs) = go (t x) (most-keep f t xs)
+    where
+      go : (b : Bool) → most f (keep t xs) ≡ most (λ x. only (t x) (f x)) xs → most f (cond b (x ∷ keep t xs) (keep t xs)) ≡ max (only b (f x)) (most (λ x. only (t x) (f x)) xs)
+      go true e = omega arith
+      go false e = omega arith
+
+  pub keep-in : (t : A → Bool) (x : A) (l ls : List A) → l ≡ x ∷ ls → t x ≡ true → keep t l ≡ x ∷ keep t ls
+  unfolding keep
+  keep-in t x l ls e h = rw (e, h)
+
+  pub keep-out : (t : A → Bool) (x : A) (l ls : List A) → l ≡ x ∷ ls → t x ≡ false → keep t l ≡ keep t ls
+  unfolding keep
+  keep-out t x l ls e h = rw (e, h)
+
+  pub keep-none : (t : A → Bool) (l : List A) → l ≡ [] → keep t l ≡ []
+  unfolding keep
+  keep-none t l e = rw e
+
+  -- what passes a test, of those that are kept by it
+  pub all-kept : (t : A → Bool) (l : List A) → All (λ x. t x ≡ true) (keep t l)
+  unfolding keep
+  all-kept t [] = tt
+  all-kept t (x ∷ xs) = go (t x) refl (all-kept t xs)
+    where
+      go : (b : Bool) → t x ≡ b → All (λ y. t y ≡ true) (keep t xs) → All (λ y. t y ≡ true) (cond b (x ∷ keep t xs) (keep t xs))
+      go true e r = (e, r)
+      go false e r = r
+
+  -- ---- tests of all elements
+
+  pub allb-all : (t : A → Bool) (l : List A) → allb t l ≡ true → All (λ x. t x ≡ true) l
+  unfolding allb
+  allb-all t [] e = tt
+  allb-all t (x ∷ xs) e =
+      let p = and-eq-true-iff (t x) (allb t xs) .0 e in
+      (p .0, allb-all t xs (p .1))
+
+  pub all-allb : (t : A → Bool) (l : List A) → All (λ x. t x ≡ true) l → allb t l ≡ true
+  unfolding allb
+  all-allb t [] a = refl
+  all-allb t (x ∷ xs) a = rw (a .0) (all-allb t xs (a .1))

@@ -1,0 +1,48 @@
+-- What a lent slice holds after writes: a loop that writes one element at a time, and one write after another.
+use mathlib.Core.Path.{_≡_, refl, sym, ap, _∙_}
+use mathlib.Core.List.{List, [], _∷_, _++_, append-assoc, append-nil}
+use Prim.Native.Nat.{ℕ, zero, suc, _+_, _-_, _≤_, _<_}
+use native.Mathlib.Nat.{add-assoc}
+use native.Mathlib.Numerals.{add-one}
+use native.Mathlib.Omega.{arith}
+use lib.ListN.{length, take, drop, getD, set, length-append, length-take, length-drop}
+use lib.Seq.{paste-zero, paste-suc, take-all, take-at, drop-at, drop-drop, drop-append-add, length-take-le}
+use borrow.Rule.Slice.PartMut.{putMid}
+use Rattle.records.specs.Written.{putAt}
+
+module _ {A : Type 0} where
+  -- a loop that writes the elements of s one by one: where it begins, a turn, and where it ends
+  pub put-none : (d : List A) (at : ℕ) (s : List A) → d ≡ putAt d at (take 0 s)
+  unfolding putAt
+  put-none d at s = paste-zero d at s
+
+  pub put-more : (z : A) (d : List A) (at : ℕ) (s : List A) (i : ℕ) → at + i < length d → i < length s
+      → set (putAt d at (take i s)) (at + i) (getD s i z) ≡ putAt d at (take (i + 1) s)
+  unfolding putAt
+  put-more z d at s i hd hs =
+      rw (add-one, length-take-le i s (omega arith), length-take-le (suc i) s (omega arith)) (paste-suc d at s i z hd hs)
+
+  pub put-all : (d : List A) (at : ℕ) (s : List A) (i : ℕ) → length s ≤ i → putAt d at (take i s) ≡ putAt d at s
+  put-all d at s i h = ap (putAt d at) (take-all i s h)
+
+  pub length-putAt : (d : List A) (at : ℕ) (s : List A) → at + length s ≤ length d → length (putAt d at s) ≡ length d
+  unfolding putAt
+  length-putAt d at s h = simp (length-append, length-take, length-drop) (omega arith)
+
+  -- what is written after a front that is written already
+  pub put-after : (p s d : List A) (at : ℕ) → length p ≡ at → putAt (p ++ drop at d) at s ≡ p ++ s ++ drop (at + length s) d
+  unfolding putAt
+  put-after p s d at e =
+      ap (λ (l : List A). l ++ s ++ drop (at + length s) (p ++ drop at d)) (take-at p (drop at d) at e)
+      ∙ ap (λ (l : List A). p ++ s ++ l)
+      (ap (λ (n : ℕ). drop (n + length s) (p ++ drop at d)) (sym e) ∙ drop-append-add p (drop at d) (length s) ∙ drop-drop (length s) at d)
+
+  -- the next part, lent and filled, after what is written from index `at` on
+  pub put-next : (d p s : List A) (at a k : ℕ) → at ≤ length d → a ≡ at + length p → k ≡ length s
+      → putMid a k (putAt d at p) s ≡ putAt d at (p ++ s)
+  unfolding putAt
+  put-next d p s at a k h ea ek =
+      let front : length (take at d ++ p) ≡ a = length-append (take at d) p ∙ ap (λ (n : ℕ). n + length p) (length-take-le at d h) ∙ sym ea in
+      let rest : drop k (drop a (take at d ++ p ++ drop (at + length p) d)) ≡ drop (at + length (p ++ s)) d =
+      rw (drop-at (take at d ++ p) (drop (at + length p) d) a front, drop-drop k (at + length p) d, ek, length-append p s, add-assoc) in
+      rw (take-at (take at d ++ p) (drop (at + length p) d) a front, rest) (simp append-assoc)

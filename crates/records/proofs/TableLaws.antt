@@ -1,0 +1,139 @@
+-- A table that passed its check: how long it is, and the bounds of each field of each leg and claim.
+use Prim.Native.Nat.{ℕ, _+_, _*_, _/_, _%_, _≤_, _<_}
+use mathlib.Core.Path.{_≡_, refl}
+use mathlib.Core.Bool.{Bool, true, false, _&&_, and-eq-true-iff}
+use mathlib.Core.List.{List, [], _∷_, map}
+use lib.Dec.{eqb, leb}
+use lib.ListN.{length}
+use borrow.Author.Tests.{eqb-true, leb-true}
+use native.Mathlib.Nat.{mul-le-mul}
+use native.Mathlib.Omega.{arith}
+use Rattle.records.specs.Lists.{All}
+use Rattle.records.specs.Bytes.{leAt}
+use Rattle.records.specs.Chunks.{recordsOf, chunks}
+use Rattle.records.specs.Dates.{within, realDate}
+use Rattle.records.specs.Legs.{legOf, inRange, goodLeg, units}
+use Rattle.records.specs.Claims.{claimOf, goodClaim}
+use Rattle.records.specs.Order.{ask, firstOf}
+use Rattle.records.specs.Tables.{goodRecord, limitOf, tableNumber, wholeTable, fieldChecks, tableChecks, legsOf, claimsOf}
+use Rattle.records.specs.declared.legs.Leg.{Leg}
+use Rattle.records.specs.declared.claims.Claim.{Claim}
+use Rattle.records.specs.declared.refusals.Fault.the-variants.{Nothing}
+use Rattle.records.specs.declared.tables.Kind.{Kind}
+use Rattle.records.specs.declared.tables.Kind.the-variants.{Holdings, Placement, Claims}
+use Rattle.records.proofs.ChunkLaws.{length-chunks}
+use Rattle.records.proofs.OrderLaws.{clear, pass-each}
+
+-- ---- one record
+
+-- the ranges of a leg's fields, as numbers
+pub record Ranges (top : ℕ) (l : Leg) : Type 0 where
+  pub group : l .group ≤ top
+  pub side : (1 ≤ l .side) × (l .side ≤ 2)
+  pub right : (1 ≤ l .right) × (l .right ≤ 2)
+  pub style : (1 ≤ l .style) × (l .style ≤ 2)
+  pub market : (1 ≤ l .market) × (l .market ≤ 2)
+  pub size : (1 ≤ l .size) × (l .size ≤ 1000)
+  pub underlying : (1 ≤ l .underlying) × (l .underlying ≤ 4294967295)
+  pub strike : (1 ≤ l .strike) × (l .strike ≤ 99999999)
+  pub expiry : (20000101 ≤ l .expiry) × (l .expiry ≤ 20991231)
+  pub contracts : (1 ≤ l .contracts .0) × (l .contracts .0 ≤ 100000)
+
+within-true : (low high x : ℕ) → within low high x ≡ true → (low ≤ x) × (x ≤ high)
+within-true low high x e =
+    let p = and-eq-true-iff (leb low x) (leb x high) .0 e in
+    (leb-true low x (p .0), leb-true x high (p .1))
+
+date-true : (n : ℕ) → realDate n ≡ true → (20000101 ≤ n) × (n ≤ 20991231)
+unfolding realDate
+date-true n e = within-true 20000101 20991231 n (and-eq-true-iff _ _ .0 e .0)
+
+pub ranges : (top : ℕ) (l : Leg) → inRange top l ≡ true → Ranges top l
+unfolding inRange
+ranges top l e =
+    let p9 = and-eq-true-iff _ _ .0 e in
+    let p8 = and-eq-true-iff _ _ .0 (p9 .0) in
+    let p7 = and-eq-true-iff _ _ .0 (p8 .0) in
+    let p6 = and-eq-true-iff _ _ .0 (p7 .0) in
+    let p5 = and-eq-true-iff _ _ .0 (p6 .0) in
+    let p4 = and-eq-true-iff _ _ .0 (p5 .0) in
+    let p3 = and-eq-true-iff _ _ .0 (p4 .0) in
+    let p2 = and-eq-true-iff _ _ .0 (p3 .0) in
+    let p1 = and-eq-true-iff _ _ .0 (p2 .0) in
+    record {
+      group = within-true 0 top (l .group) (p1 .0) .1;
+      side = within-true 1 2 (l .side) (p1 .1);
+      right = within-true 1 2 (l .right) (p2 .1);
+      style = within-true 1 2 (l .style) (p3 .1);
+      market = within-true 1 2 (l .market) (p4 .1);
+      size = within-true 1 1000 (l .size) (p5 .1);
+      underlying = within-true 1 4294967295 (l .underlying) (p6 .1);
+      strike = within-true 1 99999999 (l .strike) (p7 .1);
+      expiry = date-true (l .expiry) (p8 .1);
+      contracts = within-true 1 100000 (l .contracts .0) (p9 .1);
+    }
+
+pub good-ranges : (top : ℕ) (xs : List ℕ) → goodLeg top xs ≡ true → Ranges top (legOf xs)
+unfolding goodLeg
+good-ranges top xs e =
+    let p = and-eq-true-iff (eqb (length xs) 32) (inRange top (legOf xs) && eqb (leAt xs 24 8) 0) .0 e in
+    ranges top (legOf xs) (and-eq-true-iff (inRange top (legOf xs)) (eqb (leAt xs 24 8) 0) .0 (p .1) .0)
+
+-- a leg's units are at most 100,000,000, and at least one
+pub units-small : (top : ℕ) (l : Leg) → Ranges top l → (1 ≤ units l) × (units l ≤ 100000000)
+units-small top l r =
+    (omega (arith, mul-le-mul (r .contracts .0) (r .size .0)), omega (arith, mul-le-mul (r .contracts .1) (r .size .1)))
+
+pub record ClaimRanges (c : Claim) : Type 0 where
+  pub group : (1 ≤ c .group) × (c .group ≤ 32)
+  pub margin : c .margin ≤ 2560000000000000000
+
+pub claim-ranges : (xs : List ℕ) → goodClaim xs ≡ true → ClaimRanges (claimOf xs)
+unfolding goodClaim
+claim-ranges xs e =
+    let p = and-eq-true-iff (eqb (length xs) 32) _ .0 e in
+    let p5 = and-eq-true-iff _ _ .0 (p .1) in
+    let p4 = and-eq-true-iff _ _ .0 (p5 .0) in
+    let p3 = and-eq-true-iff _ _ .0 (p4 .0) in
+    let p2 = and-eq-true-iff _ _ .0 (p3 .0) in
+    let p1 = and-eq-true-iff _ _ .0 (p2 .0) in
+    record {
+      group = within-true 1 32 (claimOf xs .group) (p1 .0);
+      margin = leb-true (claimOf xs .margin) 2560000000000000000 (p3 .1);
+    }
+
+-- ---- a whole table
+
+pub length-legs : (xs : List ℕ) → length (legsOf xs) ≡ length xs / 32
+unfolding legsOf
+length-legs xs = simp (lib.ListN.length-map, length-chunks)
+
+pub length-claims : (xs : List ℕ) → length (claimsOf xs) ≡ length xs / 32
+unfolding claimsOf
+length-claims xs = simp (lib.ListN.length-map, length-chunks)
+
+pub whole : (kind : Kind) (bytes : ℕ) → wholeTable kind bytes ≡ true → (bytes % 32 ≡ 0) × (bytes / 32 ≤ limitOf kind)
+whole kind bytes e =
+    let p = and-eq-true-iff (eqb (bytes % 32) 0) (leb (bytes / 32) (limitOf kind)) .0 e in
+    (eqb-true (bytes % 32) 0 (p .0), leb-true (bytes / 32) (limitOf kind) (p .1))
+
+map-all : {A B : Type 0} (f : A → B) (P : B → Type 0) (Q : A → Type 0) (l : List A) → ((x : A) → Q x → P (f x)) → All Q l → All P (map f l)
+map-all f P Q [] h a = tt
+map-all f P Q (x ∷ l) h a = (h x (a .0), map-all f P Q l h (a .1))
+
+pub fields-good : (kind : Kind) (xs : List ℕ) → firstOf (fieldChecks kind xs) ≡ Nothing → All (λ r. goodRecord kind r ≡ true) (recordsOf xs)
+unfolding fieldChecks
+fields-good kind xs e = pass-each (goodRecord kind) 4 (tableNumber kind) 0 (recordsOf xs) (clear _ e)
+
+-- the bounds of every leg of a table whose fields are in range
+pub holdings-ranges : (xs : List ℕ) → firstOf (fieldChecks Holdings xs) ≡ Nothing → All (Ranges 0) (legsOf xs)
+unfolding legsOf
+holdings-ranges xs e = map-all legOf (Ranges 0) (λ r. goodLeg 0 r ≡ true) (recordsOf xs) (good-ranges 0) (fields-good Holdings xs e)
+
+pub placement-ranges : (xs : List ℕ) → firstOf (fieldChecks Placement xs) ≡ Nothing → All (Ranges 32) (legsOf xs)
+unfolding legsOf
+placement-ranges xs e = map-all legOf (Ranges 32) (λ r. goodLeg 32 r ≡ true) (recordsOf xs) (good-ranges 32) (fields-good Placement xs e)
+
+pub claims-ranges : (xs : List ℕ) → firstOf (fieldChecks Claims xs) ≡ Nothing → All ClaimRanges (claimsOf xs)
+unfolding claimsOf
+claims-ranges xs e = map-all claimOf ClaimRanges (λ r. goodClaim r ≡ true) (recordsOf xs) claim-ranges (fields-good Claims xs e)

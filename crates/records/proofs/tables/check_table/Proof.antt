@@ -1,0 +1,46 @@
+use Rattle.records.specs.Tables.{tableChecks, countedOf}
+use Rattle.records.specs.Order.{firstOf}
+use mathlib.Core.Path.{sym, _∙_}
+use borrow.Author.Needs.{needs}
+use Rattle.records.proofs.tables.check_table.Statement.{statement}
+use Rattle.records.proofs.tables.check_table.Tie as tie
+use Rattle.records.proofs.tables.check_table.Reads as reads
+use Rattle.records.proofs.tables.check_table.Lts as lts
+use Rattle.records.proofs.tables.field_fault.Reads as field-fault-reads
+use Rattle.records.proofs.tables.whole_table.Reads as whole-table-reads
+
+whole-table-requires : tie.Need-whole-table-requires
+whole-table-requires c κs = search needs
+
+field-fault-requires : tie.Need-field-fault-requires
+field-fault-requires c κs = search needs
+
+enum-told : tie.Need-enum-told
+enum-told c = search needs
+
+enum-known-refusal : tie.Need-enum-known-refusal
+enum-known-refusal c = search needs
+
+returns : tie.Need-returns
+unfolding countedOf tableChecks firstOf
+returns c = rw (sym (c .before .before .before .before .whole-table .ensures) ∙ c .before .before .before .if1 .taken, sym (c .before .before .field-fault .ensures) ∙ c .enum-told .given .1)
+
+returns-2 : tie.Need-returns-2
+unfolding countedOf tableChecks firstOf
+returns-2 c = rw (sym (c .before .before .before .before .before .whole-table .ensures) ∙ c .before .before .before .before .if1 .taken, sym (c .before .before .before .field-fault .ensures) ∙ c .before .refusal .given .1)
+
+returns-3 : tie.Need-returns-3
+unfolding countedOf tableChecks firstOf
+returns-3 c = rw (sym (c .before .whole-table .ensures) ∙ c .if1 .left)
+
+pub check-table-spec : {M : Type 1} → statement M
+check-table-spec =
+    tie.close
+    (tie.spec
+    whole-table-requires
+    field-fault-requires
+    enum-told
+    enum-known-refusal
+    returns
+    returns-2
+    returns-3)

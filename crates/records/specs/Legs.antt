@@ -1,0 +1,78 @@
+-- A leg record of 32 bytes: document 01's table of fields, row by row.
+use Prim.Native.Nat.{ℕ, _+_, _*_, min}
+use mathlib.Core.Bool.{Bool, _&&_}
+use mathlib.Core.List.{List}
+use lib.Dec.{eqb}
+use lib.ListN.{length}
+use Rattle.records.specs.Bytes.{leAt}
+use Rattle.records.specs.Dates.{within, realDate}
+use Rattle.records.specs.declared.counts.Contracts.{Contracts}
+use Rattle.records.specs.declared.counts.Units.{Units}
+use Rattle.records.specs.declared.legs.Leg.{Leg}
+
+abbrev pub contractsFrom : ℕ → Contracts
+contractsFrom n = record { 0 = n }
+
+-- where each field stands
+unfoldable pub legOf : List ℕ → Leg
+legOf xs =
+    record {
+      group = leAt xs 0 2;
+      side = leAt xs 2 1;
+      right = leAt xs 3 1;
+      style = leAt xs 4 1;
+      market = leAt xs 5 1;
+      size = leAt xs 6 2;
+      underlying = leAt xs 8 4;
+      strike = leAt xs 12 4;
+      expiry = leAt xs 16 4;
+      contracts = contractsFrom (leAt xs 20 4);
+    }
+
+-- each field's range; the group is at most `top`
+unfoldable pub inRange : ℕ → Leg → Bool
+inRange top l =
+    within 0 top (l .group)
+    && within 1 2 (l .side)
+    && within 1 2 (l .right)
+    && within 1 2 (l .style)
+    && within 1 2 (l .market)
+    && within 1 1000 (l .size)
+    && within 1 4294967295 (l .underlying)
+    && within 1 99999999 (l .strike)
+    && realDate (l .expiry)
+    && within 1 100000 (l .contracts .0)
+
+-- 32 bytes, each field in its range, bytes 24 to 31 zero
+unfoldable pub goodLeg : ℕ → List ℕ → Bool
+goodLeg top xs = eqb (length xs) 32 && (inRange top (legOf xs) && eqb (leAt xs 24 8) 0)
+
+-- ---- what a leg's fields mean
+
+abbrev pub isLong : Leg → Bool
+isLong l = eqb (l .side) 1
+
+abbrev pub isShort : Leg → Bool
+isShort l = eqb (l .side) 2
+
+abbrev pub isCall : Leg → Bool
+isCall l = eqb (l .right) 1
+
+abbrev pub isPut : Leg → Bool
+isPut l = eqb (l .right) 2
+
+-- ---- contracts and units
+
+-- 'A leg's units are its contracts times its unit size.'
+abbrev pub unitsOf : Contracts → ℕ → Units
+unitsOf c size = record { 0 = c .0 * size }
+
+abbrev pub units : Leg → ℕ
+units l = l .contracts .0 * l .size
+
+abbrev pub noUnits : Units
+noUnits = record { 0 = 0 }
+
+-- added, up to the end of the type
+abbrev pub plusUnits : Units → Units → Units
+plusUnits a b = record { 0 = min (a .0 + b .0) 18446744073709551615 }

@@ -1,0 +1,9 @@
+pub mod Lists
+pub mod Chunks
+pub mod Written
+pub mod Bytes
+pub mod Dates
+pub mod Legs
+pub mod Claims
+pub mod Order
+pub mod Tables

@@ -1,0 +1,71 @@
+-- The three tables: which number each has, how many records it may have, what a record of it is.
+use Prim.Native.Nat.{ℕ, _/_, _%_}
+use mathlib.Core.Bool.{Bool, _&&_}
+use mathlib.Core.List.{List, _∷_, map}
+use lib.Dec.{eqb, leb}
+use lib.ListN.{length}
+use Rattle.records.specs.Chunks.{recordsOf, recordsFrom}
+use Rattle.records.specs.Legs.{legOf, goodLeg}
+use Rattle.records.specs.Claims.{claimOf, goodClaim}
+use Rattle.records.specs.Order.{Check, ask, askEach, firstOf}
+use Rattle.records.specs.declared.legs.Leg.{Leg}
+use Rattle.records.specs.declared.claims.Claim.{Claim}
+use Rattle.records.specs.declared.refusals.Fault.{Fault}
+use Rattle.records.specs.declared.refusals.Fault.the-variants.{Nothing, Is}
+use Rattle.records.specs.declared.tables.Kind.{Kind}
+use Rattle.records.specs.declared.tables.Kind.the-variants.{Holdings, Placement, Claims}
+use Rattle.records.specs.declared.tables.Counted.{Counted}
+use Rattle.records.specs.declared.tables.Counted.the-variants.{Records, Refused}
+
+-- 'table (0 none, 1 holdings, 2 placement, 3 claims)'
+abbrev pub tableNumber : Kind → ℕ
+tableNumber Holdings = 1
+tableNumber Placement = 2
+tableNumber Claims = 3
+
+-- 'Holdings and placement have 0 to 256 records each, claims 0 to 32.'
+abbrev pub limitOf : Kind → ℕ
+limitOf Holdings = 256
+limitOf Placement = 256
+limitOf Claims = 32
+
+-- 'group, 0 to 32; in holdings 0 only'
+abbrev pub goodRecord : Kind → List ℕ → Bool
+goodRecord Holdings xs = goodLeg 0 xs
+goodRecord Placement xs = goodLeg 32 xs
+goodRecord Claims xs = goodClaim xs
+
+-- a table of so many bytes is of whole records and within its limit
+abbrev pub wholeTable : Kind → ℕ → Bool
+wholeTable kind bytes = eqb (bytes % 32) 0 && leb (bytes / 32) (limitOf kind)
+
+-- refusal 4, 'a field out of range': table, record
+unfoldable pub fieldChecks : Kind → List ℕ → List Check
+fieldChecks kind xs = askEach (goodRecord kind) 4 (tableNumber kind) 0 (recordsOf xs)
+
+-- refusal 1, 'table not whole records or over its limit', then 4
+unfoldable pub tableChecks : Kind → List ℕ → List Check
+tableChecks kind xs = ask (wholeTable kind (length xs)) 1 0 0 ∷ fieldChecks kind xs
+
+-- what the answer `Counted` says of each case: the refusal, or how many records
+abbrev pub counted : Fault → ℕ → Counted
+counted Nothing n = Records n
+counted (Is r) n = Refused r
+
+unfoldable pub countedOf : Kind → List ℕ → Counted
+countedOf kind xs = counted (firstOf (tableChecks kind xs)) (length xs / 32)
+
+-- ---- a table as a list
+
+unfoldable pub legsOf : List ℕ → List Leg
+legsOf xs = map legOf (recordsOf xs)
+
+-- the legs from record i on
+unfoldable pub legsFrom : List ℕ → ℕ → List Leg
+legsFrom xs i = map legOf (recordsFrom xs i)
+
+unfoldable pub claimsOf : List ℕ → List Claim
+claimsOf xs = map claimOf (recordsOf xs)
+
+unfoldable pub claimsFrom : List ℕ → ℕ → List Claim
+claimsFrom xs i = map claimOf (recordsFrom xs i)

@@ -1,0 +1,39 @@
+// Expiries: YYYYMMDD as a number, a real date, 20000101 to 20991231.
+ghost use mathlib.Core.Path.{_≡_};
+ghost use Rattle.records.specs.Dates.{within, leapYear, daysIn, realDate};
+
+pub(crate) fn is_within(low: u32, high: u32, x: u32) -> bool
+    ensures { λ r. ⌜ r ≡ within low high x ⌝ }
+{
+    (low <= x) & (x <= high)
+}
+
+fn leap_year(year: u32) -> bool
+    ensures { λ r. ⌜ r ≡ leapYear year ⌝ }
+{
+    (year % 4 == 0) & (!(year % 100 == 0) | (year % 400 == 0))
+}
+
+const MONTH_LENGTHS: [u32; 12] = [31, 28, 31, 30, 31, 30, 31, 31, 30, 31, 30, 31];
+
+fn days_in(year: u32, month: u32) -> u32
+    ensures { λ r. ⌜ r ≡ daysIn year month ⌝ }
+{
+    if month < 1 {
+        return 0;
+    }
+    if 12 < month {
+        return 0;
+    }
+    if (month == 2) & leap_year(year) {
+        return 29;
+    }
+    let i = (month - 1) as usize;
+    MONTH_LENGTHS[i]
+}
+
+pub(crate) fn real_date(n: u32) -> bool
+    ensures { λ r. ⌜ r ≡ realDate n ⌝ }
+{
+    is_within(20000101, 20991231, n) & is_within(1, days_in(n / 10000, n / 100 % 100), n % 100)
+}

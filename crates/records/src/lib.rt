@@ -1,0 +1,25 @@
+// Layer 1: a 32-byte part of a lent table read as a leg or a claim, and whole tables of them.
+// Document 01, 'Money, units, legs'. No public function has a `requires`.
+mod claims;
+mod counts;
+mod dates;
+mod fields;
+mod legs;
+mod refusals;
+mod tables;
+
+pub use claims::Claim;
+pub use claims::claim_of;
+pub use counts::Contracts;
+pub use counts::Units;
+pub use fields::u16_at;
+pub use legs::Leg;
+pub use legs::leg_of;
+pub use refusals::Fault;
+pub use refusals::Refusal;
+pub use tables::Counted;
+pub use tables::Kind;
+pub use tables::check_table;
+pub use tables::field_fault;
+pub use tables::good_record;
+pub use tables::whole_table;

@@ -1,0 +1,12 @@
+// A refusal gives number, table (0 none, 1 holdings, 2 placement, 3 claims) and place.
+pub struct Refusal {
+    pub number: u8,
+    pub table: u8,
+    pub place: usize,
+}
+
+// What a check finds: nothing to refuse, or the first refusal in document 01's order.
+pub enum Fault {
+    Nothing,
+    Is(Refusal),
+}

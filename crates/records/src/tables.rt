@@ -1,0 +1,99 @@
+// The three tables: holdings, placement, claims. One loop looks at the records of any of them.
+ghost use mathlib.Core.Path.{_≡_};
+ghost use Rattle.records.specs.Order.{firstOf};
+ghost use Rattle.records.specs.Tables.{tableNumber, limitOf, goodRecord, wholeTable, fieldChecks, countedOf};
+use crate::claims::good_claim;
+use crate::legs::good_leg;
+use crate::refusals::Fault;
+use crate::refusals::Refusal;
+
+pub enum Kind {
+    Holdings,
+    Placement,
+    Claims,
+}
+
+// How many records a table has, or why it is refused.
+pub enum Counted {
+    Records(usize),
+    Refused(Refusal),
+}
+
+fn table_number(kind: Kind) -> u8
+    ensures { λ r. ⌜ r ≡ tableNumber kind ⌝ }
+{
+    match kind {
+        Kind::Holdings => 1,
+        Kind::Placement => 2,
+        Kind::Claims => 3,
+    }
+}
+
+fn limit_of(kind: Kind) -> usize
+    ensures { λ r. ⌜ r ≡ limitOf kind ⌝ }
+{
+    match kind {
+        Kind::Holdings => 256,
+        Kind::Placement => 256,
+        Kind::Claims => 32,
+    }
+}
+
+// Whether a record's part has every field in its range.
+pub fn good_record(kind: Kind, part: &[u8]) -> bool
+    ensures { λ r. ⌜ r ≡ goodRecord kind (now (part .entry)) ⌝ }
+{
+    match kind {
+        Kind::Holdings => good_leg(0, part),
+        Kind::Placement => good_leg(32, part),
+        Kind::Claims => good_claim(part),
+    }
+}
+
+// Whether a table of so many bytes is of whole records and within its limit.
+pub fn whole_table(kind: Kind, length: usize) -> bool
+    ensures { λ r. ⌜ r ≡ wholeTable kind length ⌝ }
+{
+    (length % 32 == 0) & (length / 32 <= limit_of(kind))
+}
+
+// The first record with a field out of range, as refusal 4. Each record is looked at where it
+// stands, as a 32-byte part of the caller's slice.
+pub fn field_fault(kind: Kind, table: &[u8]) -> Fault
+    ensures { λ r. ⌜ r ≡ firstOf (fieldChecks kind (now (table .entry))) ⌝ }
+{
+    let n = table.len() / 32;
+    let mut i: usize = 0;
+    while i < n {
+        let at = 32 * i;
+        let end = at + 32;
+        if good_record(kind, &table[at..end]) {
+            i += 1;
+        } else {
+            return Fault::Is(Refusal {
+                number: 4,
+                table: table_number(kind),
+                place: i,
+            });
+        }
+    }
+    Fault::Nothing
+}
+
+// Refusal 1, then 4; else how many records there are.
+pub fn check_table(kind: Kind, table: &[u8]) -> Counted
+    ensures { λ r. ⌜ r ≡ countedOf kind (now (table .entry)) ⌝ }
+{
+    if whole_table(kind, table.len()) {
+        match field_fault(kind, table) {
+            Fault::Nothing => Counted::Records(table.len() / 32),
+            Fault::Is(refusal) => Counted::Refused(refusal),
+        }
+    } else {
+        Counted::Refused(Refusal {
+            number: 1,
+            table: 0,
+            place: 0,
+        })
+    }
+}
