@@ -4,3 +4,4 @@ pub mod ChunkLaws
 pub mod PutLaws
 pub mod OrderLaws
 pub mod TableLaws
+pub mod Unique

@@ -3,9 +3,6 @@ use borrow.Author.Tests.{le-leb, lt-leb}
 use borrow.Author.Needs.{needs}
 use Rattle.records.proofs.dates.days_in.Statement.{statement}
 use Rattle.records.proofs.dates.days_in.Tie as tie
-use Rattle.records.proofs.dates.days_in.Reads as reads
-use Rattle.records.proofs.dates.days_in.Lts as lts
-use Rattle.records.proofs.dates.leap_year.Reads as leap-year-reads
 
 returns : tie.Need-returns
 unfolding daysIn
@@ -15,22 +12,10 @@ returns-2 : tie.Need-returns-2
 unfolding daysIn
 returns-2 c = simp (le-leb _ _ (c .before .if1 .left), lt-leb _ _ (c .if2 .taken))
 
-leap-year-requires : tie.Need-leap-year-requires
-leap-year-requires c κs = search needs
-
 returns-3 : tie.Need-returns-3
 unfolding daysIn
 returns-3 c =
     simp (le-leb _ _ (c .before .before .before .if1 .left), le-leb _ _ (c .before .before .if2 .left), ← c .before .leap-year .ensures, c .if3 .taken)
-
-cast-i : tie.Need-cast-i
-cast-i c = search needs
-
-mul-result : tie.Need-mul-result
-mul-result c = search needs
-
-array-read-result : tie.Need-array-read-result
-array-read-result c = search needs
 
 returns-4 : tie.Need-returns-4
 unfolding daysIn
@@ -43,9 +28,9 @@ days-in-spec =
     (tie.spec
     returns
     returns-2
-    leap-year-requires
+    (λ c κs. search needs)
     returns-3
-    cast-i
-    mul-result
-    array-read-result
+    (λ c. search needs)
+    (λ c. search needs)
+    (λ c. search needs)
     returns-4)

@@ -5,11 +5,6 @@ use Rattle.records.specs.Bytes.{leAt}
 use borrow.Author.Needs.{needs}
 use Rattle.records.proofs.fields.byte_at.Statement.{statement}
 use Rattle.records.proofs.fields.byte_at.Tie as tie
-use Rattle.records.proofs.fields.byte_at.Reads as reads
-use Rattle.records.proofs.fields.byte_at.Lts as lts
-
-shared-slice-read-result : tie.Need-shared-slice-read-result
-shared-slice-read-result c = search needs
 
 returns : tie.Need-returns
 unfolding leAt
@@ -19,4 +14,4 @@ returns-2 : tie.Need-returns-2
 returns-2 c = sym (leAt-past (now (c .before .args .part)) 1 (c .before .args .at) (c .if1 .left))
 
 pub byte-at-spec : {M : Type 1} → statement M
-byte-at-spec = tie.close (tie.spec shared-slice-read-result returns returns-2)
+byte-at-spec = tie.close (tie.spec (λ c. search needs) returns returns-2)

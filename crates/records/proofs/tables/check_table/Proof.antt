@@ -4,22 +4,6 @@ use mathlib.Core.Path.{sym, _∙_}
 use borrow.Author.Needs.{needs}
 use Rattle.records.proofs.tables.check_table.Statement.{statement}
 use Rattle.records.proofs.tables.check_table.Tie as tie
-use Rattle.records.proofs.tables.check_table.Reads as reads
-use Rattle.records.proofs.tables.check_table.Lts as lts
-use Rattle.records.proofs.tables.field_fault.Reads as field-fault-reads
-use Rattle.records.proofs.tables.whole_table.Reads as whole-table-reads
-
-whole-table-requires : tie.Need-whole-table-requires
-whole-table-requires c κs = search needs
-
-field-fault-requires : tie.Need-field-fault-requires
-field-fault-requires c κs = search needs
-
-enum-told : tie.Need-enum-told
-enum-told c = search needs
-
-enum-known-refusal : tie.Need-enum-known-refusal
-enum-known-refusal c = search needs
 
 returns : tie.Need-returns
 unfolding countedOf tableChecks firstOf
@@ -37,10 +21,10 @@ pub check-table-spec : {M : Type 1} → statement M
 check-table-spec =
     tie.close
     (tie.spec
-    whole-table-requires
-    field-fault-requires
-    enum-told
-    enum-known-refusal
+    (λ c κs. search needs)
+    (λ c κs. search needs)
+    (λ c. search needs)
+    (λ c. search needs)
     returns
     returns-2
     returns-3)

@@ -4,11 +4,6 @@ use Prim.Native.Nat.{_≤_}
 use borrow.Author.Needs.{needs}
 use Rattle.records.proofs.counts.Contracts.units.Statement.{statement}
 use Rattle.records.proofs.counts.Contracts.units.Tie as tie
-use Rattle.records.proofs.counts.Contracts.units.Reads as reads
-use Rattle.records.proofs.counts.Contracts.units.Lts as lts
-
-cast-t3 : tie.Need-cast-t3
-cast-t3 c = search needs
 
 mul-t5 : tie.Need-mul-t5
 mul-t5 c =
@@ -16,8 +11,5 @@ mul-t5 c =
     let b : c .before .args .size ≤ 65535 = search needs in
     omega (arith, mul-le-mul a b)
 
-returns : tie.Need-returns
-returns c = search needs
-
 pub units-spec : {M : Type 1} → statement M
-units-spec = tie.close (tie.spec cast-t3 mul-t5 returns)
+units-spec = tie.close (tie.spec (λ c. search needs) mul-t5 (λ c. search needs))

@@ -4,14 +4,6 @@ use Prim.Native.Nat.{_+_, min}
 use borrow.Author.Needs.{needs}
 use Rattle.records.proofs.counts.Units.plus.Statement.{statement}
 use Rattle.records.proofs.counts.Units.plus.Tie as tie
-use Rattle.records.proofs.counts.Units.plus.Reads as reads
-use Rattle.records.proofs.counts.Units.plus.Lts as lts
-
-sub-if1 : tie.Need-sub-if1
-sub-if1 c = search needs
-
-add-t7 : tie.Need-add-t7
-add-t7 c = search needs
 
 returns : tie.Need-returns
 returns c = let e : min (c .before .args .self .0 + c .before .args .more .0) 18446744073709551615 ≡ c .before .args .self .0 + c .before .args .more .0 = omega arith in rw e
@@ -20,4 +12,4 @@ returns-2 : tie.Need-returns-2
 returns-2 c = let e : min (c .before .args .self .0 + c .before .args .more .0) 18446744073709551615 ≡ 18446744073709551615 = omega arith in rw e
 
 pub plus-spec : {M : Type 1} → statement M
-plus-spec = tie.close (tie.spec sub-if1 add-t7 returns returns-2)
+plus-spec = tie.close (tie.spec (λ c. search needs) (λ c. search needs) returns returns-2)

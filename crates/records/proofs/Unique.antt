@@ -1,0 +1,49 @@
+-- No two different outcomes meet a promise of this crate: each says that the result is one definition of the inputs.
+use mathlib.Core.Path.{_≡_, sym, _∙_}
+use mathlib.Core.Bool.{Bool}
+use mathlib.Core.List.{List}
+use Prim.Native.Nat.{ℕ}
+use Rattle.records.specs.Bytes.{leAt}
+use Rattle.records.specs.Legs.{legOf, unitsOf, plusUnits}
+use Rattle.records.specs.Claims.{claimOf}
+use Rattle.records.specs.Order.{firstOf}
+use Rattle.records.specs.Tables.{goodRecord, wholeTable, fieldChecks, countedOf}
+use Rattle.records.specs.declared.counts.Contracts.{Contracts}
+use Rattle.records.specs.declared.counts.Units.{Units}
+use Rattle.records.specs.declared.legs.Leg.{Leg}
+use Rattle.records.specs.declared.claims.Claim.{Claim}
+use Rattle.records.specs.declared.refusals.Fault.{Fault}
+use Rattle.records.specs.declared.tables.Kind.{Kind}
+use Rattle.records.specs.declared.tables.Counted.{Counted}
+
+-- two outcomes that are each the promised one are the same
+pub one-outcome : {A : Type 0} {promised r s : A} → r ≡ promised → s ≡ promised → r ≡ s
+one-outcome p q = p ∙ sym q
+
+u16-at-unique : (part : List ℕ) (at r s : ℕ) → r ≡ leAt part at 2 → s ≡ leAt part at 2 → r ≡ s
+u16-at-unique part at r s = one-outcome
+
+leg-of-unique : (part : List ℕ) (r s : Leg) → r ≡ legOf part → s ≡ legOf part → r ≡ s
+leg-of-unique part r s = one-outcome
+
+claim-of-unique : (part : List ℕ) (r s : Claim) → r ≡ claimOf part → s ≡ claimOf part → r ≡ s
+claim-of-unique part r s = one-outcome
+
+units-unique : (c : Contracts) (size : ℕ) (r s : Units) → r ≡ unitsOf c size → s ≡ unitsOf c size → r ≡ s
+units-unique c size r s = one-outcome
+
+plus-unique : (a b r s : Units) → r ≡ plusUnits a b → s ≡ plusUnits a b → r ≡ s
+plus-unique a b r s = one-outcome
+
+good-record-unique : (kind : Kind) (part : List ℕ) (r s : Bool) → r ≡ goodRecord kind part → s ≡ goodRecord kind part → r ≡ s
+good-record-unique kind part r s = one-outcome
+
+whole-table-unique : (kind : Kind) (bytes : ℕ) (r s : Bool) → r ≡ wholeTable kind bytes → s ≡ wholeTable kind bytes → r ≡ s
+whole-table-unique kind bytes r s = one-outcome
+
+field-fault-unique : (kind : Kind) (table : List ℕ) (r s : Fault)
+    → r ≡ firstOf (fieldChecks kind table) → s ≡ firstOf (fieldChecks kind table) → r ≡ s
+field-fault-unique kind table r s = one-outcome
+
+check-table-unique : (kind : Kind) (table : List ℕ) (r s : Counted) → r ≡ countedOf kind table → s ≡ countedOf kind table → r ≡ s
+check-table-unique kind table r s = one-outcome
