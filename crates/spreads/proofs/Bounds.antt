@@ -1,0 +1,110 @@
+-- How much legs within their ranges can be worth at a price below 100,000,000, and how much a group can lose.
+use Prim.Native.Nat.{ℕ, _+_, _-_, _*_, _/_, _≤_, _<_, max}
+use mathlib.Core.Path.{_≡_, refl}
+use mathlib.Core.Bool.{Bool, true, false, cond}
+use mathlib.Core.List.{List, [], _∷_}
+use native.Mathlib.Nat.{mul-le-mul}
+use native.Mathlib.Omega.{arith}
+use lib.Dec.{eqb, ltb}
+use lib.ListN.{length}
+use Rattle.records.specs.Lists.{only, sum, most, keep, All}
+use Rattle.records.specs.Legs.{isLong, isShort, isCall, isPut, units}
+use Rattle.records.specs.Tables.{legsOf}
+use Rattle.records.specs.declared.legs.Leg.{Leg}
+use Rattle.records.specs.declared.tables.Kind.the-variants.{Placement}
+use Rattle.records.proofs.ListLaws.{all-map, all-keep, length-keep, sum-bound}
+use Rattle.records.proofs.TableLaws.{Ranges, units-small, placement-ranges, length-legs, whole}
+use Rattle.spreads.specs.Prices.{intrinsic, value, longAt, shortAt, at, lossAt}
+use Rattle.spreads.specs.Strikes.{place, strikesOf, marginOf}
+use Rattle.spreads.specs.Spreads.{groupOf}
+use Rattle.spreads.specs.Calls.{Placed}
+
+-- ---- one leg
+
+pub only-less : (b : Bool) (x : ℕ) → only b x ≤ x
+only-less true x = omega arith
+only-less false x = omega arith
+
+pub intrinsic-small : (k : ℕ) (l : Leg) → Ranges 32 l → k < 100000000 → intrinsic 1 k l ≤ 100000000
+unfolding intrinsic
+intrinsic-small k l r h =
+    omega (arith, only-less (isCall l) (k - 1 * l .strike), only-less (isPut l) (1 * l .strike - k), r .strike)
+
+-- at most 100,000,000 units of 100,000,000 mills
+pub worth-small : (k : ℕ) (l : Leg) → Ranges 32 l → k < 100000000 → units l * intrinsic 1 k l ≤ 10000000000000000
+worth-small k l r h = mul-le-mul (units-small 32 l r .1) (intrinsic-small k l r h)
+
+pub value-small : (k : ℕ) (l : Leg) → Ranges 32 l → k < 100000000 → value 1 (at k) l ≤ 10000000000000000
+unfolding value
+value-small k l r h = worth-small k l r h
+
+-- ---- many legs
+
+module _ (k : ℕ) (legs : List Leg) (r : All (Ranges 32) legs) (h : k < 100000000) where
+  pub long-bound : longAt 1 (at k) legs ≤ 10000000000000000 * length legs
+  unfolding longAt
+  long-bound =
+      sum-bound (λ l. only (isLong l) (value 1 (at k) l)) 10000000000000000 legs
+      (all-map legs (λ l q. omega (arith, value-small k l q h, only-less (isLong l) (value 1 (at k) l))) r)
+
+  pub short-bound : shortAt 1 (at k) legs ≤ 10000000000000000 * length legs
+  unfolding shortAt
+  short-bound =
+      sum-bound (λ l. only (isShort l) (value 1 (at k) l)) 10000000000000000 legs
+      (all-map legs (λ l q. omega (arith, value-small k l q h, only-less (isShort l) (value 1 (at k) l))) r)
+
+  pub loss-bound : lossAt legs k ≤ 10000000000000000 * length legs
+  unfolding lossAt
+  loss-bound = omega (arith, short-bound)
+
+  pub sides-small : length legs ≤ 256 → (longAt 1 (at k) legs ≤ 2560000000000000000) × (shortAt 1 (at k) legs ≤ 2560000000000000000)
+  sides-small n = (omega (arith, long-bound), omega (arith, short-bound))
+
+-- ---- the strikes, and the margin
+
+pub all-place : (P : ℕ → Type 0) (k : ℕ) (xs : List ℕ) → P k → All P xs → All P (place k xs)
+unfolding place
+all-place P k [] p a = (p, tt)
+all-place P k (x ∷ xs) p a = go (ltb k x) (ltb x k) (all-place P k xs p (a .1))
+  where
+    go : (b c : Bool) → All P (place k xs) → All P (cond b (k ∷ x ∷ xs) (cond c (x ∷ place k xs) (x ∷ xs)))
+    go true c r = (p, a)
+    go false true r = (a .0, r)
+    go false false r = a
+
+pub strikes-below : (legs : List Leg) → All (Ranges 32) legs → All (λ k. k < 100000000) (strikesOf legs)
+unfolding strikesOf
+strikes-below [] r = tt
+strikes-below (l ∷ ls) r = all-place (λ k. k < 100000000) (l .strike) (strikesOf ls) (omega (arith, r .0 .strike)) (strikes-below ls (r .1))
+
+pub most-bound : {A : Type 0} (f : A → ℕ) (b : ℕ) (l : List A) → All (λ x. f x ≤ b) l → most f l ≤ b
+unfolding most
+most-bound f b [] a = omega arith
+most-bound f b (x ∷ xs) a = omega (arith, a .0, most-bound f b xs (a .1))
+
+pub margin-bound : (legs : List Leg) → All (Ranges 32) legs → marginOf legs ≤ 10000000000000000 * length legs
+unfolding marginOf
+margin-bound legs r =
+    most-bound (lossAt legs) (10000000000000000 * length legs) (strikesOf legs)
+    (all-map (strikesOf legs) (λ k h. loss-bound k legs r h) (strikes-below legs r))
+
+-- ---- a group of a checked placement
+
+module _ (xs : List ℕ) (p : Placed xs) where
+  pub table-few : length xs / 32 ≤ 256
+  table-few = whole Placement (length xs) (p .whole) .1
+
+  pub table-ranges : All (Ranges 32) (legsOf xs)
+  table-ranges = placement-ranges xs (p .fields)
+
+  module _ (g : ℕ) where
+    pub group-ranges : All (Ranges 32) (groupOf g (legsOf xs))
+    unfolding groupOf
+    group-ranges = all-keep (Ranges 32) (λ l. eqb (l .group) g) (legsOf xs) table-ranges
+
+    pub group-few : length (groupOf g (legsOf xs)) ≤ 256
+    unfolding groupOf
+    group-few = omega (arith, length-keep (λ l. eqb (l .group) g) (legsOf xs), length-legs xs, table-few)
+
+    pub margin-small : marginOf (groupOf g (legsOf xs)) ≤ 2560000000000000000
+    margin-small = omega (arith, margin-bound (groupOf g (legsOf xs)) group-ranges, group-few)

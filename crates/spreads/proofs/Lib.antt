@@ -1,0 +1,17 @@
+pub mod Rest
+pub mod Bounds
+pub mod StrikeSums
+pub mod Front
+pub mod Cover
+pub mod RuleLaws
+pub mod Nets
+pub mod Merge
+pub mod Bench
+pub mod RuleFacts
+pub mod PairLaws
+pub mod FaultLaws
+pub mod Signed
+pub mod Worths
+pub mod Ascending
+pub mod Walks
+pub mod Answers

@@ -1,0 +1,88 @@
+-- Nothing of 6 to 13 is refused just where the legs are a spread.
+use mathlib.Core.Path.{_≡_, refl, sym, ap, _∙_}
+use mathlib.Core.Bool.{Bool, true, false, not, _&&_, and-eq-true-iff}
+use mathlib.Core.List.{List, [], _∷_}
+use Prim.Native.Nat.{ℕ, _≤_}
+use lib.Dec.{leb}
+use lib.ListN.{length}
+use borrow.Author.Tests.{eqb-true, eq-eqb, leb-true, le-leb}
+use Rattle.records.specs.Lists.{allb, All}
+use Rattle.records.specs.Dates.{within}
+use Rattle.records.specs.Order.{firstOf}
+use Rattle.records.specs.declared.legs.Leg.{Leg}
+use Rattle.records.specs.declared.refusals.Fault.the-variants.{Nothing}
+use Rattle.records.proofs.ListLaws.{all-map, allb-all, all-allb}
+use Rattle.records.proofs.OrderLaws.{Pass, clear, unclear}
+use Rattle.spreads.specs.Spreads.{oneOf, doubled, noneDoubled, Spread, spreadChecks}
+
+-- ---- each test and its fact
+
+one-value : (field : Leg → ℕ) (legs : List Leg) → oneOf field legs ≡ true → (u : ℕ) × All (λ l. field l ≡ u) legs
+unfolding oneOf
+one-value field [] e = (0, tt)
+one-value field (l ∷ ls) e = (field l, (refl, all-map ls (λ k q. eqb-true (field k) (field l) q) (allb-all _ ls e)))
+
+value-one : (field : Leg → ℕ) (legs : List Leg) (u : ℕ) → All (λ l. field l ≡ u) legs → oneOf field legs ≡ true
+unfolding oneOf
+value-one field [] u a = refl
+value-one field (l ∷ ls) u a = all-allb _ ls (all-map ls (λ k q. eq-eqb (field k) (field l) (q ∙ sym (a .0))) (a .1))
+
+not-false : (b : Bool) → not b ≡ true → b ≡ false
+not-false true e = sym e
+not-false false e = refl
+
+none-series : (legs : List Leg) → noneDoubled legs ≡ true → All (λ a. All (λ b. doubled a b ≡ false) legs) legs
+unfolding noneDoubled
+none-series legs e =
+    all-map legs (λ a q. all-map legs (λ b r. not-false (doubled a b) r) (allb-all (λ b. not (doubled a b)) legs q))
+    (allb-all (λ a. allb (λ b. not (doubled a b)) legs) legs e)
+
+series-none : (legs : List Leg) → All (λ a. All (λ b. doubled a b ≡ false) legs) legs → noneDoubled legs ≡ true
+unfolding noneDoubled
+series-none legs e = all-allb _ legs (all-map legs (λ a q. all-allb (λ b. not (doubled a b)) legs (all-map legs (λ b r. ap not r) q)) e)
+
+numbered-true : (g n : ℕ) → (within 1 32 g && leb 1 n) ≡ true → ((1 ≤ g) × (g ≤ 32)) × (1 ≤ n)
+numbered-true g n e =
+    let p = and-eq-true-iff (within 1 32 g) (leb 1 n) .0 e in
+    let q = and-eq-true-iff (leb 1 g) (leb g 32) .0 (p .0) in
+    ((leb-true 1 g (q .0), leb-true g 32 (q .1)), leb-true 1 n (p .1))
+
+-- ---- all of them
+
+pub pass-spread : (g : ℕ) (legs : List Leg) → Pass (spreadChecks g legs) → Spread g legs
+unfolding spreadChecks
+pass-spread g legs p =
+    let n = numbered-true g (length legs) (p .0) in
+    record {
+      numbered = n .0;
+      leg = n .1;
+      underlying = one-value (λ l. l .underlying) legs (p .1 .0);
+      style = one-value (λ l. l .style) legs (p .1 .1 .0);
+      market = one-value (λ l. l .market) legs (p .1 .1 .1 .0);
+      series = none-series legs (p .1 .1 .1 .1 .0);
+      calls = eqb-true _ _ (p .1 .1 .1 .1 .1 .0);
+      puts = eqb-true _ _ (p .1 .1 .1 .1 .1 .1 .0);
+      lives = leb-true _ _ (p .1 .1 .1 .1 .1 .1 .1 .0);
+    }
+
+pub spread-pass : (g : ℕ) (legs : List Leg) → Spread g legs → Pass (spreadChecks g legs)
+unfolding spreadChecks
+spread-pass g legs s = (
+  rw (le-leb 1 g (s .numbered .0), le-leb g 32 (s .numbered .1), le-leb 1 (length legs) (s .leg)) refl,
+  (
+    value-one _ legs _ (s .underlying .1),
+    (
+      value-one _ legs _ (s .style .1),
+      (
+        value-one _ legs _ (s .market .1),
+        (series-none legs (s .series), (eq-eqb _ _ (s .calls), (eq-eqb _ _ (s .puts), (le-leb _ _ (s .lives), tt)))),
+      ),
+    ),
+  ),
+)
+
+pub spread-passes : (g : ℕ) (legs : List Leg) → Spread g legs → firstOf (spreadChecks g legs) ≡ Nothing
+spread-passes g legs s = unclear (spreadChecks g legs) (spread-pass g legs s)
+
+pub passes-spread : (g : ℕ) (legs : List Leg) → firstOf (spreadChecks g legs) ≡ Nothing → Spread g legs
+passes-spread g legs e = pass-spread g legs (clear (spreadChecks g legs) e)

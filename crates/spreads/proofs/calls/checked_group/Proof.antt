@@ -1,0 +1,34 @@
+use mathlib.Core.Path.{sym, _∙_}
+use Rattle.spreads.specs.Calls.{groupChecks}
+use Rattle.spreads.proofs.Answers.{table-placed, table-then, table-stop}
+use borrow.Author.Needs.{needs}
+use Rattle.spreads.proofs.calls.checked_group.Statement.{statement}
+use Rattle.spreads.proofs.calls.checked_group.Tie as tie
+
+group-fault-requires : tie.Need-group-fault-requires
+group-fault-requires c κs =
+    let t = c .before .before in
+    table-placed _ _ (sym (t .check-table .ensures) ∙ c .enum-told .given .1)
+
+returns : tie.Need-returns
+unfolding groupChecks
+returns c =
+    let t = c .before .before .before in
+    sym (table-stop _ _ _ (sym (t .check-table .ensures) ∙ c .before .refusal .given .1))
+
+returns-2 : tie.Need-returns-2
+unfolding groupChecks
+returns-2 c =
+    let t = c .before .before .before in
+    c .group-fault .ensures ∙ sym (table-then _ _ _ (sym (t .check-table .ensures) ∙ c .before .enum-told .given .1))
+
+pub checked-group-spec : {M : Type 1} → statement M
+checked-group-spec =
+    tie.close
+    (tie.spec
+    (λ c κs. search needs)
+    (λ c. search needs)
+    (λ c. search needs)
+    group-fault-requires
+    returns
+    returns-2)

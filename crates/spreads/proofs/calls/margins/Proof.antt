@@ -1,0 +1,39 @@
+use mathlib.Core.Path.{refl, sym, _∙_}
+use Rattle.spreads.specs.Calls.{groupsChecks}
+use Rattle.spreads.proofs.Answers.{placed-first, margins-in, margins-out, margins-stop}
+use borrow.Author.Needs.{needs}
+use Rattle.spreads.proofs.calls.margins.Statement.{statement}
+use Rattle.spreads.proofs.calls.margins.Tie as tie
+
+fill-margins-requires : tie.Need-fill-margins-requires
+unfolding groupsChecks
+fill-margins-requires c κs =
+    let u = c .before .before in
+    (placed-first _ _ (sym (u .before .before .checked-groups .ensures) ∙ u .enum-told .given .1), c .before .if1 .taken)
+
+returns : tie.Need-returns
+returns c =
+    let u = c .before .before .before .before in
+    (margins-in _ _ _ (sym (u .before .before .checked-groups .ensures) ∙ u .enum-told .given .1) (c .before .before .before .if1 .taken), c .before .fill-margins .ensures)
+
+returns-2 : tie.Need-returns-2
+returns-2 c =
+    (margins-stop _ _ _ _ (sym (c .before .before .before .checked-groups .ensures) ∙ c .before .refusal .given .1), refl)
+
+returns-3 : tie.Need-returns-3
+returns-3 c =
+    let u = c .before in
+    (margins-out _ _ _ (sym (u .before .before .checked-groups .ensures) ∙ u .enum-told .given .1) (c .if1 .left), refl)
+
+pub margins-spec : {M : Type 1} → statement M
+margins-spec =
+    tie.close
+    (tie.spec
+    (λ c κs. search needs)
+    (λ c. search needs)
+    (λ c. search needs)
+    fill-margins-requires
+    (λ c. search needs)
+    returns
+    returns-2
+    returns-3)

@@ -1,0 +1,12 @@
+use borrow.Author.Needs.{needs}
+use Rattle.spreads.specs.Search.{clash}
+use Rattle.spreads.specs.Spreads.{sameSeries}
+use Rattle.spreads.proofs.pairs.is_clash.Statement.{statement}
+use Rattle.spreads.proofs.pairs.is_clash.Tie as tie
+
+returns : tie.Need-returns
+unfolding clash sameSeries
+returns c = search needs
+
+pub is-clash-spec : {M : Type 1} → statement M
+is-clash-spec = tie.close (tie.spec (λ c. search needs) returns)

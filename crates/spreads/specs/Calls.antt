@@ -1,0 +1,109 @@
+-- What the calls of one group answer, and what they leave in the slices that they are lent.
+use mathlib.Core.Path.{_≡_}
+use mathlib.Core.Bool.{Bool, true, false, not, _&&_, cond}
+use mathlib.Core.List.{List, [], _∷_, _++_}
+use Prim.Native.Nat.{ℕ, zero, suc, _+_, _*_}
+use lib.Dec.{eqb, leb, ltb}
+use lib.IntN.{ℤ, pos}
+use lib.ListN.{length}
+use Rattle.records.specs.Lists.{only}
+use Rattle.records.specs.Legs.{isLong, isShort, units}
+use Rattle.records.specs.Order.{Check, ask, firstOf, refuse, groups}
+use Rattle.records.specs.Tables.{wholeTable, fieldChecks, tableChecks, legsOf}
+use Rattle.records.specs.Written.{putAt}
+use Rattle.records.specs.declared.legs.Leg.{Leg}
+use Rattle.records.specs.declared.refusals.Fault.{Fault}
+use Rattle.records.specs.declared.refusals.Fault.the-variants.{Nothing, Is}
+use Rattle.records.specs.declared.tables.Kind.the-variants.{Placement}
+use Rattle.spreads.specs.Prices.{intrinsic, longAt, shortAt, at}
+use Rattle.spreads.specs.Strikes.{strikesOf, marginOf, netsOf}
+use Rattle.spreads.specs.Spreads.{groupOf, spreadChecks}
+use Rattle.spreads.specs.declared.facts.Facts.{Facts}
+use Rattle.spreads.specs.declared.prices.Worth.{Worth}
+use Rattle.spreads.specs.declared.calls.Due.{Due}
+use Rattle.spreads.specs.declared.calls.Due.the-variants.{Mills, Refused as Refused-due}
+use Rattle.spreads.specs.declared.calls.Listed.{Listed}
+use Rattle.spreads.specs.declared.calls.Listed.the-variants.{Entries, Refused as Refused-listed}
+
+-- a placement table that has passed 1 and 4
+pub record Placed (xs : List ℕ) : Type 0 where
+  pub whole : wholeTable Placement (length xs) ≡ true
+  pub fields : firstOf (fieldChecks Placement xs) ≡ Nothing
+
+-- ---- inside: the rule's number from the facts, and the two sums at a price
+
+unfoldable pub faultNumber : Bool → Facts → Bool → ℕ
+faultNumber inReach f doubled =
+    cond (inReach && f .firsts .some)
+    (cond (f .firsts .underlyings) 7
+    (cond (f .firsts .styles) 8
+    (cond (f .firsts .markets) 9
+    (cond doubled 10
+    (cond (eqb (f .calls .long .0) (f .calls .short .0))
+    (cond (eqb (f .puts .long .0) (f .puts .short .0))
+    (cond (ltb (f .lives .earliest) (f .lives .latest)) 13 0)
+    12)
+    11)))))
+    6
+
+abbrev pub numberFault : ℕ → ℕ → Fault
+numberFault number g = cond (eqb number 0) Nothing (Is (refuse number 2 g))
+
+unfoldable pub withWorth : ℕ → Worth → Leg → Worth
+withWorth price w l =
+    record {
+      long = w .long + only (isLong l) (units l * intrinsic 1 price l);
+      short = w .short + only (isShort l) (units l * intrinsic 1 price l);
+    }
+
+unfoldable pub worthAt : ℕ → List Leg → Worth
+worthAt price legs = record { long = longAt 1 (at price) legs; short = shortAt 1 (at price) legs }
+
+-- ---- 'Margin and worksheet calls take a placement table and g: 1, 4 over the whole table, 6 to 13, and 17 for the worksheet.'
+
+unfoldable pub groupChecks : List ℕ → ℕ → List Check
+groupChecks xs g = tableChecks Placement xs ++ spreadChecks g (groupOf g (legsOf xs))
+
+abbrev pub dueAnswer : Fault → ℕ → Due
+dueAnswer Nothing mills = Mills (pos mills)
+dueAnswer (Is r) mills = Refused-due r
+
+unfoldable pub marginCall : List ℕ → ℕ → Due
+marginCall xs g = dueAnswer (firstOf (groupChecks xs g)) (marginOf (groupOf g (legsOf xs)))
+
+-- 17: '0, strikes needed, if either slice is shorter'
+unfoldable pub listChecks : List Leg → ℕ → ℕ → List Check
+listChecks legs roomStrikes roomNets =
+    ask (leb (length (strikesOf legs)) roomStrikes && leb (length (strikesOf legs)) roomNets) 17 0 (length (strikesOf legs)) ∷ []
+
+abbrev pub listedAnswer : Fault → ℕ → Listed
+listedAnswer Nothing n = Entries n
+listedAnswer (Is r) n = Refused-listed r
+
+unfoldable pub listedIn : List Leg → ℕ → ℕ → Listed
+listedIn legs roomStrikes roomNets = listedAnswer (firstOf (listChecks legs roomStrikes roomNets)) (length (strikesOf legs))
+
+unfoldable pub worksheetCall : List ℕ → ℕ → ℕ → ℕ → Listed
+worksheetCall xs g roomStrikes roomNets =
+    listedAnswer (firstOf (groupChecks xs g ++ listChecks (groupOf g (legsOf xs)) roomStrikes roomNets))
+    (length (strikesOf (groupOf g (legsOf xs))))
+
+-- what a lent slice holds then: the list from index 0, entries beyond stay; on a refusal all stays
+module _ {A : Type 0} where
+  abbrev pub listLeft : Listed → List A → List A → List A
+  listLeft (Entries n) entries d = putAt d 0 entries
+  listLeft (Refused-listed r) entries d = d
+
+-- ---- the margins of groups 1 to n in one call
+
+-- the margins of n groups from g on
+unfoldable pub marginsFrom : List Leg → ℕ → ℕ → List ℤ
+marginsFrom legs g zero = []
+marginsFrom legs g (suc n) = pos (marginOf (groupOf g legs)) ∷ marginsFrom legs (g + 1) n
+
+unfoldable pub groupsChecks : List ℕ → ℕ → List Check
+groupsChecks xs n = tableChecks Placement xs ++ groups n (λ g. spreadChecks g (groupOf g (legsOf xs)))
+
+-- 17: '0, n', if the slice is shorter
+unfoldable pub marginsCall : List ℕ → ℕ → ℕ → Listed
+marginsCall xs n room = listedAnswer (firstOf (groupsChecks xs n ++ (ask (leb n room) 17 0 n ∷ []))) n

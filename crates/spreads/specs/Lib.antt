@@ -1,0 +1,6 @@
+pub mod Prices
+pub mod Strikes
+pub mod Spreads
+pub mod Gathered
+pub mod Search
+pub mod Calls

@@ -1,0 +1,36 @@
+-- How the search for a doubled series goes: the later leg by its place, and with it the earlier ones from the first on.
+use Prim.Native.Nat.{ℕ, zero, suc, _+_}
+use mathlib.Core.Bool.{Bool, true, false, _&&_, _||_, cond}
+use mathlib.Core.List.{List, [], _∷_, map}
+use lib.Dec.{eqb}
+use Rattle.records.specs.Chunks.{chunkAt, chunksFrom}
+use Rattle.records.specs.Legs.{isLong, isShort, legOf}
+use Rattle.records.specs.declared.legs.Leg.{Leg}
+use Rattle.spreads.specs.Spreads.{sameSeries}
+use Rattle.spreads.specs.declared.pairs.Pair.{Pair}
+use Rattle.spreads.specs.declared.pairs.Pair.the-variants.{At, Nothing}
+
+-- two legs, the second of group g, of one series and of two sides
+unfoldable pub clash : ℕ → Leg → Leg → Bool
+clash g a b = eqb (b .group) g && (sameSeries a b && (isLong a && isShort b || isLong b && isShort a))
+
+-- the legs of the places from i up to j
+abbrev pub legsBetween : List ℕ → ℕ → ℕ → List Leg
+legsBetween xs i j = map legOf (chunksFrom 32 j i xs)
+
+-- the first of some legs, which stand from place i on, that clashes with x at place j; else what comes otherwise
+unfoldable pub pairWith : ℕ → Leg → ℕ → ℕ → List Leg → Pair → Pair
+pairWith g x j i [] otherwise = otherwise
+pairWith g x j i (y ∷ ys) otherwise = cond (clash g x y) (At j i) (pairWith g x j (i + 1) ys otherwise)
+
+-- of the m places from j on, the first leg of group g that clashes with an earlier one
+unfoldable pub firstPair : ℕ → List ℕ → ℕ → ℕ → Pair
+firstPair g xs j zero = Nothing
+firstPair g xs j (suc m) =
+    cond (eqb (legOf (chunkAt 32 xs j) .group) g)
+    (pairWith g (legOf (chunkAt 32 xs j)) j 0 (legsBetween xs 0 j) (firstPair g xs (j + 1) m))
+    (firstPair g xs (j + 1) m)
+
+abbrev pub isFound : Pair → Bool
+isFound (At j i) = true
+isFound Nothing = false

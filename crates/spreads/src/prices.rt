@@ -1,0 +1,89 @@
+// What a group's legs are worth at a price: longs and shorts as two sums, the signed net made once.
+ghost use mathlib.Core.Path.{_≡_};
+ghost use Prim.Native.Nat.{_+_, _-_, _*_, _<_, _≤_, _^_};
+ghost use lib.IntN.{pos, _-ℤ_};
+ghost use Rattle.records.specs.Legs.{units};
+ghost use Rattle.records.specs.Tables.{legsOf};
+ghost use Rattle.spreads.specs.Prices.{intrinsic, net, lossAt};
+ghost use Rattle.spreads.specs.Spreads.{groupOf};
+ghost use Rattle.spreads.specs.Calls.{Placed, withWorth, worthAt};
+use records::Leg;
+
+// In mills.
+pub struct Worth {
+    pub long: u64,
+    pub short: u64,
+}
+
+// Of one unit, at a price in whole mills.
+fn intrinsic_at(leg: Leg, price: u32) -> u64
+    ensures { λ r. ⌜ r ≡ intrinsic 1 price leg ⌝ }
+{
+    let strike = leg.strike;
+    if leg.right == 1 {
+        if strike < price {
+            return (price - strike) as u64;
+        }
+        return 0;
+    }
+    if leg.right == 2 {
+        if price < strike {
+            return (strike - price) as u64;
+        }
+    }
+    0
+}
+
+impl Worth {
+    fn with_leg(mut self, leg: Leg, price: u32) -> Worth
+        requires { ⌜ (self .long + units leg * intrinsic 1 price leg < 2 ^ 64) × (self .short + units leg * intrinsic 1 price leg < 2 ^ 64) ⌝ }
+        ensures { λ r. ⌜ r ≡ withWorth price self leg ⌝ }
+    {
+        let mills = leg.contracts.units(leg.size).number() * intrinsic_at(leg, price);
+        if leg.side == 1 {
+            self.long += mills;
+            return self;
+        }
+        if leg.side == 2 {
+            self.short += mills;
+        }
+        self
+    }
+
+    pub(crate) fn loss(self) -> u64
+        ensures { λ r. ⌜ r ≡ self .short - self .long ⌝ }
+    {
+        if self.long < self.short {
+            return self.short - self.long;
+        }
+        0
+    }
+
+    pub(crate) fn net(self) -> i64
+        requires { ⌜ (self .long ≤ 2560000000000000000) × (self .short ≤ 2560000000000000000) ⌝ }
+        ensures { λ r. ⌜ r ≡ pos (self .long) -ℤ pos (self .short) ⌝ }
+    {
+        self.long as i64 - self.short as i64
+    }
+}
+
+// What group g of a checked placement is worth at a price.
+pub(crate) fn worth_at(placement: &[u8], g: usize, price: u32) -> Worth
+    requires { ⌜ Placed (now placement) ⌝ }
+    requires { ⌜ price < 100000000 ⌝ }
+    ensures { λ r. ⌜ r ≡ worthAt price (groupOf g (legsOf (now (placement .entry)))) ⌝ }
+{
+    let n = placement.len() / 32;
+    let mut worth = Worth { long: 0, short: 0 };
+    let mut i: usize = 0;
+    while i < n {
+        let at = 32 * i;
+        let end = at + 32;
+        let leg = records::leg_of(&placement[at..end]);
+        if leg.group as usize == g {
+            worth = worth.with_leg(leg, price);
+        }
+        i += 1;
+    }
+    worth
+}
