@@ -1,9 +1,10 @@
 -- Checks in their order: a search that goes on, ends or is over; nothing is refused just where every check holds.
-use Prim.Native.Nat.{ℕ, zero, suc, _+_, _≤_}
-use mathlib.Core.Path.{_≡_, refl, sym}
+use Prim.Native.Nat.{ℕ, zero, suc, _+_, _≤_, _<_}
+use mathlib.Core.Path.{_≡_, refl, ap, _∙_}
 use mathlib.Core.Bool.{Bool, true, false, cond}
 use mathlib.Core.List.{List, [], _∷_, _++_}
 use native.Mathlib.Decide.{ℕ-discrete}
+use native.Mathlib.Numerals.{add-one}
 use native.Mathlib.Omega.{arith}
 use Rattle.records.specs.Lists.{All}
 use Rattle.records.specs.Order.{Check, ask, refuse, firstOf, askEach, groups, inOrder, orElse}
@@ -38,6 +39,39 @@ first-append (c ∷ a) b = go (c .holds) (first-append a b)
         → cond t (firstOf (a ++ b)) (Is (c .refusal)) ≡ orElse (cond t (firstOf a) (Is (c .refusal))) (firstOf b)
     go true e = e
     go false e = refl
+
+-- one list of checks after another that passes, or that does not
+pub first-then : (a b : List Check) → firstOf a ≡ Nothing → firstOf (a ++ b) ≡ firstOf b
+first-then a b e = first-append a b ∙ ap (λ (f : Fault). orElse f (firstOf b)) e
+
+pub first-stop : (a b : List Check) (r : Refusal) → firstOf a ≡ Is r → firstOf (a ++ b) ≡ Is r
+first-stop a b r e = first-append a b ∙ ap (λ (f : Fault). orElse f (firstOf b)) e
+
+-- ---- a search through groups 1 to n, ascending
+
+pub groups-none : (F : ℕ → List Check) → firstOf (groups 0 F) ≡ Nothing
+unfolding groups firstOf
+groups-none F = refl
+
+module _ (F : ℕ → List Check) (k : ℕ) (e : firstOf (groups k F) ≡ Nothing) where
+  pub groups-more : firstOf (F (k + 1)) ≡ Nothing → firstOf (groups (k + 1) F) ≡ Nothing
+  unfolding groups
+  groups-more f = rw add-one (first-then (groups k F) (F (suc k)) e ∙ rw add-one at f)
+
+  pub groups-stop : (n : ℕ) (r : Refusal) → k < n → firstOf (F (k + 1)) ≡ Is r → firstOf (groups n F) ≡ Is r
+  unfolding groups
+  groups-stop zero r h f = absurd (omega arith)
+  groups-stop (suc n) r h f =
+      elim (ℕ-discrete n k) [
+        | yes q ↦ rw q (first-then (groups k F) (F (suc k)) e ∙ rw add-one at f)
+        | no q ↦ first-stop (groups n F) (F (suc n)) r (groups-stop n r (omega arith) f)
+      ]
+
+-- groups that are asked the same
+pub groups-same : (n : ℕ) (F G : ℕ → List Check) → ((g : ℕ) → 1 ≤ g → g ≤ n → F g ≡ G g) → groups n F ≡ groups n G
+unfolding groups
+groups-same zero F G h = refl
+groups-same (suc n) F G h = rw (groups-same n F G (λ g a b. h g a (omega arith)), h (suc n) (omega arith) (omega arith))
 
 -- ---- nothing is refused just where every check holds
 

@@ -1,11 +1,10 @@
 -- The answers of the calls: what is checked first, what is left to check, and what is written.
-use Prim.Native.Nat.{ℕ, zero, suc, _+_, _-_, _≤_, _<_}
+use Prim.Native.Nat.{ℕ, zero, suc, _+_, _≤_, _<_}
 use mathlib.Core.Path.{_≡_, refl, sym, ap, _∙_}
-use mathlib.Core.Bool.{Bool, true, false, _&&_, cond, and-eq-true-iff}
+use mathlib.Core.Bool.{true, false, _&&_, and-eq-true-iff}
 use mathlib.Core.List.{List, [], _∷_, _++_}
 use native.Mathlib.Nat.{add-zero, zero-add}
 use native.Mathlib.Numerals.{add-one}
-use native.Mathlib.Decide.{ℕ-discrete}
 use native.Mathlib.Omega.{arith}
 use borrow.Author.Tests.{le-leb, lt-leb, leb-true}
 use lib.Dec.{leb}
@@ -18,16 +17,13 @@ use Rattle.records.specs.declared.legs.Leg.{Leg}
 use Rattle.records.specs.declared.refusals.Refusal.{Refusal}
 use Rattle.records.specs.declared.refusals.Fault.{Fault}
 use Rattle.records.specs.declared.refusals.Fault.the-variants.{Nothing, Is}
-use Rattle.records.specs.declared.tables.Counted.{Counted}
 use Rattle.records.specs.declared.tables.Counted.the-variants.{Records, Refused}
 use Rattle.records.specs.declared.tables.Kind.the-variants.{Placement}
-use Rattle.records.proofs.OrderLaws.{first-append, clear, unclear}
+use Rattle.records.proofs.OrderLaws.{first-append, first-then, first-stop, clear, unclear}
 use Rattle.records.proofs.PutLaws.{put-more, put-all, length-putAt}
-use Rattle.spreads.specs.Spreads.{groupOf, spreadChecks}
+use Rattle.spreads.specs.Spreads.{groupOf}
 use Rattle.spreads.specs.Strikes.{strikesOf, marginOf}
-use Rattle.spreads.specs.Calls.{Placed, groupChecks, groupsChecks, marginCall, dueAnswer, listChecks, listedIn, listedAnswer, worksheetCall, marginsFrom, marginsCall}
-use Rattle.spreads.specs.declared.calls.Due.{Due}
-use Rattle.spreads.specs.declared.calls.Due.the-variants.{Mills, Refused as Refused-due}
+use Rattle.spreads.specs.Calls.{Placed, groupChecks, groupsChecks, listChecks, listedIn, worksheetCall, marginsFrom, marginsCall}
 use Rattle.spreads.specs.declared.calls.Listed.{Listed}
 use Rattle.spreads.specs.declared.calls.Listed.the-variants.{Entries, Refused as Refused-listed}
 
@@ -41,19 +37,12 @@ counted-not : (f : Fault) (n : ℕ) (r : Refusal) → counted f n ≡ Refused r 
 counted-not Nothing n r e = let z : _≡_ {A = ℕ} 0 1 = cc in absurd (omega arith)
 counted-not (Is q) n r e = cc
 
--- one list of checks after another that passes, or that does not
-pub first-then : (a b : List Check) → firstOf a ≡ Nothing → firstOf (a ++ b) ≡ firstOf b
-first-then a b e = first-append a b ∙ ap (λ (f : Fault). orElse f (firstOf b)) e
-
-pub first-stop : (a b : List Check) (r : Refusal) → firstOf a ≡ Is r → firstOf (a ++ b) ≡ Is r
-first-stop a b r e = first-append a b ∙ ap (λ (f : Fault). orElse f (firstOf b)) e
-
 first-left : (f g : Fault) → orElse f g ≡ Nothing → f ≡ Nothing
 first-left Nothing g e = refl
 first-left (Is r) g e = e
 
 module _ (xs : List ℕ) where
-  placed-if : firstOf (tableChecks Placement xs) ≡ Nothing → Placed xs
+  pub placed-if : firstOf (tableChecks Placement xs) ≡ Nothing → Placed xs
   unfolding tableChecks
   placed-if e =
       let p = clear _ e in
@@ -103,20 +92,6 @@ module _ (xs : List ℕ) (g a b : ℕ) where
 
 -- ---- groups 1 to n
 
-module _ (F : ℕ → List Check) (k : ℕ) (e : firstOf (groups k F) ≡ Nothing) where
-  pub groups-more : firstOf (F (k + 1)) ≡ Nothing → firstOf (groups (k + 1) F) ≡ Nothing
-  unfolding groups
-  groups-more f = rw add-one (first-then (groups k F) (F (suc k)) e ∙ rw add-one at f)
-
-  pub groups-stop : (n : ℕ) (r : Refusal) → k < n → firstOf (F (k + 1)) ≡ Is r → firstOf (groups n F) ≡ Is r
-  unfolding groups
-  groups-stop zero r h f = absurd (omega arith)
-  groups-stop (suc n) r h f =
-      elim (ℕ-discrete n k) [
-        | yes q ↦ rw q (first-then (groups k F) (F (suc k)) e ∙ rw add-one at f)
-        | no q ↦ first-stop (groups n F) (F (suc n)) r (groups-stop n r (omega arith) f)
-      ]
-
 module _ (xs : List ℕ) (n room : ℕ) where
   pub margins-stop : (r : Refusal) → firstOf (groupsChecks xs n) ≡ Is r → Refused-listed r ≡ marginsCall xs n room
   unfolding marginsCall
@@ -133,7 +108,7 @@ module _ (xs : List ℕ) (n room : ℕ) where
 -- ---- the margins as a list
 
 module _ (legs : List Leg) where
-  length-margins : (g n : ℕ) → length (marginsFrom legs g n) ≡ n
+  pub length-margins : (g n : ℕ) → length (marginsFrom legs g n) ≡ n
   unfolding marginsFrom
   length-margins g zero = refl
   length-margins g (suc n) = ap suc (length-margins (g + 1) n)
@@ -146,7 +121,7 @@ module _ (legs : List Leg) where
       let e : g + 1 + k ≡ g + suc k = omega arith in
       rw e at (getD-margins z (g + 1) n k (omega arith))
 
-  margin-at : (z : ℤ) (n k : ℕ) → k < n → getD (marginsFrom legs 1 n) k z ≡ pos (marginOf (groupOf (k + 1) legs))
+  pub margin-at : (z : ℤ) (n k : ℕ) → k < n → getD (marginsFrom legs 1 n) k z ≡ pos (marginOf (groupOf (k + 1) legs))
   margin-at z n k h = let e : 1 + k ≡ k + 1 = omega arith in rw e at (getD-margins z 1 n k h)
 
 -- a loop that writes them one by one: out is what stands in d after k of n

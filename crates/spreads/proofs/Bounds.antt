@@ -1,13 +1,12 @@
 -- How much legs within their ranges can be worth at a price below 100,000,000, and how much a group can lose.
-use Prim.Native.Nat.{ℕ, _+_, _-_, _*_, _/_, _≤_, _<_, max}
-use mathlib.Core.Path.{_≡_, refl}
+use Prim.Native.Nat.{ℕ, _-_, _*_, _/_, _≤_, _<_}
 use mathlib.Core.Bool.{Bool, true, false, cond}
 use mathlib.Core.List.{List, [], _∷_}
 use native.Mathlib.Nat.{mul-le-mul}
 use native.Mathlib.Omega.{arith}
 use lib.Dec.{eqb, ltb}
 use lib.ListN.{length}
-use Rattle.records.specs.Lists.{only, sum, most, keep, All}
+use Rattle.records.specs.Lists.{only, most, All}
 use Rattle.records.specs.Legs.{isLong, isShort, isCall, isPut, units}
 use Rattle.records.specs.Tables.{legsOf}
 use Rattle.records.specs.declared.legs.Leg.{Leg}

@@ -1,16 +1,14 @@
 -- What legs are worth at a price, leg by leg, and the loop that adds up both sides of a group.
 use Prim.Native.Nat.{ℕ, _+_, _-_, _*_, _/_, _≤_, _<_, _^_}
-use mathlib.Core.Path.{_≡_, refl, sym, ap, _∙_}
-use mathlib.Core.Bool.{Bool, true, false}
+use mathlib.Core.Path.{_≡_, refl, ap}
 use mathlib.Core.List.{List, [], _∷_}
-use native.Mathlib.Nat.{one-mul, add-zero, zero-add}
+use native.Mathlib.Nat.{one-mul, add-zero}
 use native.Mathlib.Omega.{arith}
-use lib.Dec.{eqb}
 use lib.IntN.{pos, _-ℤ_}
 use lib.ListN.{length, take, drop}
-use borrow.Author.Tests.{eq-eqb, ne-eqb}
+use borrow.Author.Tests.{ne-eqb}
 use Rattle.records.specs.Lists.{only, sum, All}
-use Rattle.records.specs.Legs.{isLong, isShort, isCall, isPut, units, legOf}
+use Rattle.records.specs.Legs.{isLong, isShort, units, legOf}
 use Rattle.records.specs.Tables.{legsOf}
 use Rattle.records.specs.declared.legs.Leg.{Leg}
 use Rattle.records.proofs.TableLaws.{Ranges}

@@ -1,6 +1,6 @@
 // The public calls of one group, and of groups 1 to n.
 ghost use mathlib.Core.Path.{_≡_};
-ghost use Prim.Native.Nat.{_+_, _≤_};
+ghost use Prim.Native.Nat.{_≤_};
 ghost use lib.ListN.{length};
 ghost use Rattle.records.specs.Order.{firstOf, groups};
 ghost use Rattle.records.specs.Tables.{legsOf};

@@ -4,7 +4,7 @@ ghost use Prim.Native.Nat.{_+_, _-_, _*_, _<_, _≤_, _^_};
 ghost use lib.IntN.{pos, _-ℤ_};
 ghost use Rattle.records.specs.Legs.{units};
 ghost use Rattle.records.specs.Tables.{legsOf};
-ghost use Rattle.spreads.specs.Prices.{intrinsic, net, lossAt};
+ghost use Rattle.spreads.specs.Prices.{intrinsic};
 ghost use Rattle.spreads.specs.Spreads.{groupOf};
 ghost use Rattle.spreads.specs.Calls.{Placed, withWorth, worthAt};
 use records::Leg;

@@ -6,7 +6,7 @@ use Rattle.records.specs.Order.{firstOf, groups}
 use Rattle.records.specs.Tables.{legsOf}
 use Rattle.records.specs.declared.refusals.Fault.the-variants.{Nothing}
 use Rattle.spreads.specs.Spreads.{groupOf, spreadChecks}
-use Rattle.spreads.proofs.Answers.{groups-more, groups-stop}
+use Rattle.records.proofs.OrderLaws.{groups-more, groups-stop}
 use Rattle.spreads.proofs.calls.groups_fault.Statement.{statement}
 use Rattle.spreads.proofs.calls.groups_fault.Tie as tie
 

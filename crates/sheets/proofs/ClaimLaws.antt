@@ -1,0 +1,70 @@
+-- A claim by its group, as a loop over 32-byte parts sees it.
+use Prim.Native.Nat.{ℕ, zero, suc, _+_, _-_, _*_, _/_, _≤_, _<_}
+use mathlib.Core.Path.{_≡_, refl, sym, _∙_, ap}
+use mathlib.Core.Bool.{true}
+use mathlib.Core.List.{List, [], _∷_, map}
+use native.Mathlib.Nat.{le-of-suc-le-suc, not-suc-le-zero}
+use native.Mathlib.Omega.{arith}
+use lib.ListN.{length, getD, take, drop, length-map}
+use Rattle.records.specs.Lists.{All}
+use Rattle.records.specs.Chunks.{chunkAt, recordsOf}
+use Rattle.records.specs.Claims.{claimOf, goodClaim}
+use Rattle.records.specs.Order.{firstOf, refuse}
+use Rattle.records.specs.Tables.{fieldChecks, claimsOf, claimsFrom}
+use Rattle.records.specs.declared.claims.Claim.{Claim}
+use Rattle.records.specs.declared.refusals.Fault.the-variants.{Nothing, Is}
+use Rattle.records.specs.declared.tables.Kind.the-variants.{Claims}
+use Rattle.records.proofs.ChunkLaws.{getD-chunks, length-chunks, part-is, claims-none}
+use Rattle.records.proofs.ListLaws.{sum-step, sum-over}
+use Rattle.records.proofs.TableLaws.{fields-good, claim-ranges}
+use Rattle.sheets.specs.Sheets.{claimFor, totalOf}
+use Rattle.sheets.specs.Verdicts.{bits, askListed}
+use borrow.Author.Tests.{eq-eqb, ne-eqb}
+use lib.IntN.{ℤ, pos}
+use Rattle.sheets.proofs.SearchLaws.{claim-next}
+
+getD-map : {A B : Type 0} (f : A → B) (l : List A) (i : ℕ) (d : A) (e : B) → i < length l → getD (map f l) i e ≡ f (getD l i d)
+getD-map f [] i d e h = absurd (not-suc-le-zero h)
+getD-map f (x ∷ l) zero d e h = refl
+getD-map f (x ∷ l) (suc i) d e h = getD-map f l i d e (le-of-suc-le-suc h)
+
+all-at : {A : Type 0} (P : A → Type 0) (l : List A) (i : ℕ) (d : A) → All P l → i < length l → P (getD l i d)
+all-at P [] i d a h = absurd (not-suc-le-zero h)
+all-at P (x ∷ l) zero d a h = a .0
+all-at P (x ∷ l) (suc i) d a h = all-at P l i d (a .1) (le-of-suc-le-suc h)
+
+module _ (xs : List ℕ) (k : ℕ) (h : k < length xs / 32) (c : Claim) (e : c ≡ claimOf (take (32 * k + 32 - 32 * k) (drop (32 * k) xs))) where
+  pub claim-at : claimFor (claimsOf xs) (k + 1) ≡ c .margin
+  unfolding claimFor claimsOf
+  claim-at =
+      let n : k + 1 - 1 ≡ k = omega arith in
+      let l : k < length (recordsOf xs) = rw (length-chunks 32 (length xs / 32) xs) h in
+      let m : k < length (map claimOf (recordsOf xs)) = rw (length-map (recordsOf xs) claimOf) l in
+      rw (n, e, part-is 32 k xs)
+      (getD-map (λ c. c .margin) (map claimOf (recordsOf xs)) k (claimOf []) 0 m
+      ∙ ap (λ (c : Claim). c .margin) (getD-map claimOf (recordsOf xs) k [] (claimOf []) l ∙ ap claimOf (getD-chunks 32 (length xs / 32) k xs h)))
+
+  pub claim-small : firstOf (fieldChecks Claims xs) ≡ Nothing → c .margin ≤ 2560000000000000000
+  claim-small good =
+      let l : k < length (recordsOf xs) = rw (length-chunks 32 (length xs / 32) xs) h in
+      let g : goodClaim (chunkAt 32 xs k) ≡ true =
+      rw (getD-chunks 32 (length xs / 32) k xs h) at (all-at (λ r. goodClaim r ≡ true) (recordsOf xs) k [] (fields-good Claims xs good) l) in
+      rw (e, part-is 32 k xs) (claim-ranges (chunkAt 32 xs k) g .margin)
+
+  pub total-step : totalOf (claimsFrom xs k) ≡ c .margin + totalOf (claimsFrom xs (k + 1))
+  unfolding totalOf
+  total-step = sum-step _ c (claimsFrom xs k) (claimsFrom xs (k + 1)) (claim-next xs k c e h)
+
+pub total-over : (xs : List ℕ) (k : ℕ) → length xs / 32 ≤ k → totalOf (claimsFrom xs k) ≡ 0
+unfolding totalOf
+total-over xs k h = sum-over _ (claimsFrom xs k) (claims-none xs k h)
+
+-- a claim against a list of margins
+module _ (margins : List ℤ) (c : List Claim) (k m : ℕ) (e : claimFor c (k + 1) ≡ m) where
+  pub listed-good : m ≡ bits (getD margins k (pos 0)) → firstOf (askListed margins c (k + 1)) ≡ Nothing
+  unfolding askListed firstOf
+  listed-good h = let n : k + 1 - 1 ≡ k = omega arith in rw (e, n, eq-eqb _ _ h)
+
+  pub listed-bad : (m ≡ bits (getD margins k (pos 0)) → ⊥) → firstOf (askListed margins c (k + 1)) ≡ Is (refuse 16 3 (k + 1))
+  unfolding askListed firstOf
+  listed-bad h = let n : k + 1 - 1 ≡ k = omega arith in rw (e, n, ne-eqb _ _ h)

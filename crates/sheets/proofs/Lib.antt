@@ -1,0 +1,14 @@
+pub mod SearchLaws
+pub mod ClaimLaws
+pub mod Held
+pub mod LineLaws
+pub mod Groups
+pub mod SheetCover
+pub mod Judged
+pub mod Limits
+pub mod Demands
+pub mod StageLaws
+pub mod DecimalLaws
+pub mod PieceLaws
+pub mod AmountLaws
+pub mod LineExamples

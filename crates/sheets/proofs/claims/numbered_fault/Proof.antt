@@ -1,0 +1,94 @@
+use native.Mathlib.Omega.{arith}
+use borrow.Author.Needs.{needs}
+use Rattle.sheets.proofs.SearchLaws.{claim-next, numbered-good, numbered-bad, numbered-none}
+use Rattle.sheets.specs.Sheets.{askNumbered}
+use Rattle.records.proofs.ChunkLaws.{claims-all, claims-none}
+use Rattle.records.specs.Tables.{claimsOf, claimsFrom}
+use Rattle.records.specs.Order.{firstOf}
+use denote.Ref.{now}
+use lib.ListN.{length}
+use mathlib.Core.Bool.{true, false}
+use mathlib.Core.Path.{_≡_, refl, sym, _∙_}
+use Prim.Native.Nat.{_≤_, _-_, _+_, _*_, _/_}
+use Rattle.sheets.proofs.claims.numbered_fault.Statement.{statement}
+use Rattle.sheets.proofs.claims.numbered_fault.Tie as tie
+use Rattle.sheets.proofs.claims.numbered_fault.Reads as reads
+use Rattle.sheets.proofs.claims.numbered_fault.Lts as lts
+use Rattle.records.proofs.claim_of.Reads as claim-of-reads
+
+abbrev Inv-loop : tie.InvT-loop
+Inv-loop claims n i₀ i = (n ≡ length claims / 32) × (i ≤ n) × (firstOf (askNumbered 0 (claimsOf claims)) ≡ firstOf (askNumbered i (claimsFrom claims i)))
+
+abbrev μ-loop : tie.MeasureT-loop
+μ-loop claims n i₀ i = n - i
+
+loop-holds : tie.Need-loop-holds Inv-loop μ-loop
+loop-holds c = (refl, omega arith, rw (claims-all (now (c .before .args .claims))))
+
+mul-at : tie.Need-mul-at Inv-loop μ-loop
+mul-at c = omega arith
+
+add-end : tie.Need-add-end Inv-loop μ-loop
+add-end c = omega arith
+
+sub-claim-of : tie.Need-sub-claim-of Inv-loop μ-loop
+sub-claim-of c = omega arith
+
+part-claim-of-start : tie.Need-part-claim-of-start Inv-loop μ-loop
+part-claim-of-start c = omega arith
+
+part-claim-of-end : tie.Need-part-claim-of-end Inv-loop μ-loop
+part-claim-of-end c = omega arith
+
+claim-of-requires : tie.Need-claim-of-requires Inv-loop μ-loop
+claim-of-requires c κs = search needs
+
+cast-if1 : tie.Need-cast-if1 Inv-loop μ-loop
+cast-if1 c = omega arith
+
+add-if1 : tie.Need-add-if1 Inv-loop μ-loop
+add-if1 c = omega arith
+
+add-i : tie.Need-add-i Inv-loop μ-loop
+add-i c = omega arith
+
+loop-less : tie.Need-loop-less Inv-loop μ-loop
+loop-less c = omega arith
+
+loop-again : tie.Need-loop-again Inv-loop μ-loop
+loop-again c =
+    let t = c .before .before .before .before .before in
+    let a = t .before .before .args in
+    (refl, omega arith, t .loop .inv .2 ∙ numbered-good (t .loop .i) (c .before .before .claim-of .result) (claimsFrom (now (a .claims)) (t .loop .i)) (claimsFrom (now (a .claims)) (t .loop .i + 1)) (claim-next (now (a .claims)) (t .loop .i) _ (c .before .before .claim-of .ensures) (omega arith)) (c .if1 .taken))
+
+returns : tie.Need-returns Inv-loop μ-loop
+returns c =
+    let t = c .before .before .before .before .before in
+    let a = t .before .before .args in
+    sym (t .loop .inv .2 ∙ numbered-bad (t .loop .i) (c .before .before .claim-of .result) (claimsFrom (now (a .claims)) (t .loop .i)) (claimsFrom (now (a .claims)) (t .loop .i + 1)) (claim-next (now (a .claims)) (t .loop .i) _ (c .before .before .claim-of .ensures) (omega arith)) (c .if1 .left))
+
+returns-2 : tie.Need-returns-2 Inv-loop μ-loop
+returns-2 c =
+    let a = c .before .before .before .args in
+    sym (c .before .loop .inv .2 ∙ numbered-none (c .before .loop .i) _ (claims-none (now (a .claims)) (c .before .loop .i) (omega arith)))
+
+pub numbered-fault-spec : {M : Type 1} → statement M
+numbered-fault-spec =
+    tie.close
+    (tie.spec
+    Inv-loop
+    μ-loop
+    loop-holds
+    mul-at
+    add-end
+    sub-claim-of
+    part-claim-of-start
+    part-claim-of-end
+    claim-of-requires
+    cast-if1
+    add-if1
+    add-i
+    loop-less
+    loop-again
+    returns
+    returns-2)

@@ -1,0 +1,107 @@
+use native.Mathlib.Omega.{arith}
+use borrow.Author.Needs.{needs}
+use Rattle.sheets.proofs.SearchLaws.{search-holds, search-good, search-bad, search-over}
+use Rattle.sheets.specs.Lines.{contractsOf, evenAt}
+use Rattle.records.specs.Tables.{legsOf, legsFrom}
+use Rattle.records.specs.Order.{firstOf, askEach}
+use borrow.Author.Tests.{eq-eqb, ne-eqb}
+use denote.Ref.{now}
+use lib.ListN.{length}
+use mathlib.Core.Bool.{true, false}
+use mathlib.Core.Path.{_≡_, refl, sym, _∙_}
+use Prim.Native.Nat.{_≤_, _-_, _+_, _*_, _/_}
+use Rattle.sheets.proofs.lines.first_uneven.Statement.{statement}
+use Rattle.sheets.proofs.lines.first_uneven.Tie as tie
+use Rattle.sheets.proofs.lines.first_uneven.Reads as reads
+use Rattle.sheets.proofs.lines.first_uneven.Lts as lts
+use Rattle.records.proofs.leg_of.Reads as leg-of-reads
+use Rattle.sheets.proofs.lines.contracts_of.Reads as contracts-of-reads
+
+abbrev Inv-loop : tie.InvT-loop
+Inv-loop holdings placement table number n i₀ i =
+    (n ≡ length table / 32) × (i ≤ n)
+    × (firstOf (askEach (evenAt (legsOf holdings) (legsOf placement)) 14 number 0 (legsOf table))
+    ≡ firstOf (askEach (evenAt (legsOf holdings) (legsOf placement)) 14 number i (legsFrom table i)))
+
+abbrev μ-loop : tie.MeasureT-loop
+μ-loop holdings placement table number n i₀ i = n - i
+
+loop-holds : tie.Need-loop-holds Inv-loop μ-loop
+loop-holds c = let a = c .before .before .before .args in (refl, omega arith, search-holds (evenAt (legsOf (now (a .holdings))) (legsOf (now (a .placement)))) 14 (a .number) (now (a .table)) 0)
+
+mul-at : tie.Need-mul-at Inv-loop μ-loop
+mul-at c = omega arith
+
+add-end : tie.Need-add-end Inv-loop μ-loop
+add-end c = omega arith
+
+sub-leg-of : tie.Need-sub-leg-of Inv-loop μ-loop
+sub-leg-of c = omega arith
+
+part-leg-of-start : tie.Need-part-leg-of-start Inv-loop μ-loop
+part-leg-of-start c = omega arith
+
+part-leg-of-end : tie.Need-part-leg-of-end Inv-loop μ-loop
+part-leg-of-end c = omega arith
+
+leg-of-requires : tie.Need-leg-of-requires Inv-loop μ-loop
+leg-of-requires c κs = search needs
+
+contracts-of-requires : tie.Need-contracts-of-requires Inv-loop μ-loop
+contracts-of-requires c κs = search needs
+
+contracts-of-requires-2 : tie.Need-contracts-of-requires-2 Inv-loop μ-loop
+contracts-of-requires-2 c κs = search needs
+
+add-i : tie.Need-add-i Inv-loop μ-loop
+add-i c = omega arith
+
+loop-less : tie.Need-loop-less Inv-loop μ-loop
+loop-less c = omega arith
+
+loop-again : tie.Need-loop-again Inv-loop μ-loop
+unfolding evenAt
+loop-again c =
+    let t = c .before .before .before .before .before .before in
+    let a = t .before .before .before .before .args in
+    let l = c .before .before .before .leg-of .result in (
+      refl,
+      omega arith,
+      search-good (evenAt (legsOf (now (a .holdings))) (legsOf (now (a .placement)))) 14 (a .number) (now (a .table)) (t .loop .i) (t .loop .inv .2) l (c .before .before .before .leg-of .ensures) (omega arith)
+          (eq-eqb _ _ (sym (c .before .before .contracts-of .ensures) ∙ c .if1 .taken ∙ c .before .contracts-of2 .ensures)),
+    )
+
+returns : tie.Need-returns Inv-loop μ-loop
+unfolding evenAt
+returns c =
+    let t = c .before .before .before .before .before .before in
+    let a = t .before .before .before .before .args in
+    let l = c .before .before .before .leg-of .result in
+    search-bad (evenAt (legsOf (now (a .holdings))) (legsOf (now (a .placement)))) 14 (a .number) (now (a .table)) (t .loop .i) (t .loop .inv .2) l (c .before .before .before .leg-of .ensures) (omega arith)
+    (ne-eqb _ _ (λ e. c .if1 .left (c .before .before .contracts-of .ensures ∙ e ∙ sym (c .before .contracts-of2 .ensures))))
+
+returns-2 : tie.Need-returns-2 Inv-loop μ-loop
+returns-2 c =
+    let a = c .before .before .before .before .before .args in
+    search-over (evenAt (legsOf (now (a .holdings))) (legsOf (now (a .placement)))) 14 (a .number) (now (a .table)) (c .before .loop .i) (c .before .loop .inv .2) (omega arith)
+
+pub first-uneven-spec : {M : Type 1} → statement M
+first-uneven-spec =
+    tie.close
+    (tie.spec
+    Inv-loop
+    μ-loop
+    loop-holds
+    mul-at
+    add-end
+    sub-leg-of
+    part-leg-of-start
+    part-leg-of-end
+    leg-of-requires
+    contracts-of-requires
+    contracts-of-requires-2
+    add-i
+    loop-less
+    loop-again
+    returns
+    returns-2)

@@ -1,0 +1,41 @@
+use Rattle.sheets.specs.Sheets.{sheetChecks}
+use Rattle.records.proofs.OrderLaws.{first-append}
+use mathlib.Core.Path.{_≡_, refl, sym, ap, _∙_}
+use borrow.Author.Needs.{needs}
+use Rattle.sheets.proofs.sheet.sheet_fault.Statement.{statement}
+use Rattle.sheets.proofs.sheet.sheet_fault.Tie as tie
+use Rattle.sheets.proofs.sheet.sheet_fault.Reads as reads
+use Rattle.sheets.proofs.sheet.sheet_fault.Lts as lts
+use Rattle.sheets.proofs.sheet.rule_fault.Reads as rule-fault-reads
+use Rattle.sheets.proofs.sheet.tables_fault.Reads as tables-fault-reads
+
+tables-fault-requires : tie.Need-tables-fault-requires
+tables-fault-requires c κs = search needs
+
+enum-known-refusal : tie.Need-enum-known-refusal
+enum-known-refusal c = search needs
+
+enum-told : tie.Need-enum-told
+enum-told c = search needs
+
+rule-fault-requires : tie.Need-rule-fault-requires
+rule-fault-requires c κs = record { passed = sym (c .before .before .tables-fault .ensures) ∙ c .enum-told .given .1 }
+
+returns : tie.Need-returns
+unfolding sheetChecks
+returns c = rw (first-append, sym (c .before .before .before .tables-fault .ensures) ∙ c .before .refusal .given .1)
+
+returns-2 : tie.Need-returns-2
+unfolding sheetChecks
+returns-2 c = rw (first-append, sym (c .before .before .before .tables-fault .ensures) ∙ c .before .enum-told .given .1) (c .rule-fault .ensures)
+
+pub sheet-fault-spec : {M : Type 1} → statement M
+sheet-fault-spec =
+    tie.close
+    (tie.spec
+    tables-fault-requires
+    enum-known-refusal
+    enum-told
+    rule-fault-requires
+    returns
+    returns-2)

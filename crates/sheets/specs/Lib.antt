@@ -1,0 +1,4 @@
+pub mod Lines
+pub mod Sheets
+pub mod Verdicts
+pub mod Printed

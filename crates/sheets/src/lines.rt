@@ -1,0 +1,106 @@
+// Refusals 14 and 15: contracts by line and side, and shorts that are not placed.
+ghost use mathlib.Core.Path.{_≡_};
+ghost use Prim.Native.Nat.{_≤_};
+ghost use lib.ListN.{length};
+ghost use Rattle.records.specs.Order.{firstOf, askEach};
+ghost use Rattle.records.specs.Tables.{legsOf};
+ghost use Rattle.sheets.specs.Lines.{sameLine, sameLineSide, contractsOf, evenAt};
+ghost use Rattle.sheets.specs.Sheets.{askLines, askNamed, askPlaced};
+use records::Fault;
+use records::Leg;
+use records::Refusal;
+
+fn same_line(a: Leg, b: Leg) -> bool
+    ensures { λ r. ⌜ r ≡ sameLine a b ⌝ }
+{
+    (a.right == b.right)
+        & (a.style == b.style)
+        & (a.market == b.market)
+        & (a.size == b.size)
+        & (a.underlying == b.underlying)
+        & (a.strike == b.strike)
+        & (a.expiry == b.expiry)
+}
+
+fn same_line_side(a: Leg, b: Leg) -> bool
+    ensures { λ r. ⌜ r ≡ sameLineSide a b ⌝ }
+{
+    (a.side == b.side) & same_line(a, b)
+}
+
+// The contracts of one line and side in a table.
+fn contracts_of(leg: Leg, table: &[u8]) -> u64
+    requires { ⌜ length (now table) ≤ 8192 ⌝ }
+    ensures { λ r. ⌜ r ≡ contractsOf leg (legsOf (now (table .entry))) ⌝ }
+{
+    let n = table.len() / 32;
+    let mut contracts: u64 = 0;
+    let mut i: usize = 0;
+    while i < n {
+        let at = 32 * i;
+        let end = at + 32;
+        let other = records::leg_of(&table[at..end]);
+        if same_line_side(leg, other) {
+            contracts += other.contracts.number() as u64;
+        }
+        i += 1;
+    }
+    contracts
+}
+
+// The first record of one of the two tables whose line and side has differing sums.
+fn first_uneven(holdings: &[u8], placement: &[u8], table: &[u8], number: u8) -> Fault
+    requires { ⌜ (length (now holdings) ≤ 8192) × (length (now placement) ≤ 8192) ⌝ }
+    ensures { λ r. ⌜ r ≡ firstOf (askEach (evenAt (legsOf (now (holdings .entry))) (legsOf (now (placement .entry)))) 14 number 0 (legsOf (now (table .entry)))) ⌝ }
+{
+    let n = table.len() / 32;
+    let mut i: usize = 0;
+    while i < n {
+        let at = 32 * i;
+        let end = at + 32;
+        let leg = records::leg_of(&table[at..end]);
+        if contracts_of(leg, holdings) == contracts_of(leg, placement) {
+            i += 1;
+        } else {
+            return Fault::Is(Refusal {
+                number: 14,
+                table: number,
+                place: i,
+            });
+        }
+    }
+    Fault::Nothing
+}
+
+// Refusal 14. This is the quadratic part: its callers know it by this contract alone.
+pub(crate) fn lines_fault(holdings: &[u8], placement: &[u8]) -> Fault
+    requires { ⌜ (length (now holdings) ≤ 8192) × (length (now placement) ≤ 8192) ⌝ }
+    ensures { λ r. ⌜ r ≡ firstOf (askLines (legsOf (now (holdings .entry))) (legsOf (now (placement .entry)))) ⌝ }
+{
+    match first_uneven(holdings, placement, holdings, 1) {
+        Fault::Is(refusal) => Fault::Is(refusal),
+        Fault::Nothing => first_uneven(holdings, placement, placement, 2),
+    }
+}
+
+// Refusal 15: the first short record with group 0.
+pub(crate) fn placed_fault(placement: &[u8]) -> Fault
+    ensures { λ r. ⌜ r ≡ firstOf (askPlaced (legsOf (now (placement .entry)))) ⌝ }
+{
+    let n = placement.len() / 32;
+    let mut i: usize = 0;
+    while i < n {
+        let at = 32 * i;
+        let end = at + 32;
+        let leg = records::leg_of(&placement[at..end]);
+        if (leg.side == 2) & (leg.group == 0) {
+            return Fault::Is(Refusal {
+                number: 15,
+                table: 2,
+                place: i,
+            });
+        }
+        i += 1;
+    }
+    Fault::Nothing
+}
