@@ -46,3 +46,15 @@ module _ {A : Type 0} where
       let rest : drop k (drop a (take at d ++ p ++ drop (at + length p) d)) ≡ drop (at + length (p ++ s)) d =
       rw (drop-at (take at d ++ p) (drop (at + length p) d) a front, drop-drop k (at + length p) d, ek, length-append p s, add-assoc) in
       rw (take-at (take at d ++ p) (drop (at + length p) d) a front, rest) (simp append-assoc)
+
+  -- what is written after what is written is written together
+  pub put-put : (d p s : List A) (at k : ℕ) → at ≤ length d → k ≡ at + length p → putAt (putAt d at p) k s ≡ putAt d at (p ++ s)
+  unfolding putAt
+  put-put d p s at k h e =
+      rw (← (drop-drop (length s) k (putAt d at p)), append-assoc (take k (putAt d at p)) s (drop (length s) (drop k (putAt d at p))))
+      (put-next d p s at k (length s) h e refl)
+
+  -- what is written from index 0 on is no longer than what then stands there
+  pub put-holds : (d s : List A) → length s ≤ length (putAt d 0 s)
+  unfolding putAt
+  put-holds d s = omega (arith, length-append s (drop (0 + length s) d))

@@ -7,7 +7,7 @@ use Rattle.records.specs.Bytes.{leAt}
 use Rattle.records.specs.Legs.{legOf, unitsOf, plusUnits}
 use Rattle.records.specs.Claims.{claimOf}
 use Rattle.records.specs.Order.{firstOf}
-use Rattle.records.specs.Tables.{goodRecord, wholeTable, fieldChecks, countedOf}
+use Rattle.records.specs.Tables.{goodRecord, wholeTable, fieldChecks, fieldsChecks, countedOf}
 use Rattle.records.specs.declared.counts.Contracts.{Contracts}
 use Rattle.records.specs.declared.counts.Units.{Units}
 use Rattle.records.specs.declared.legs.Leg.{Leg}
@@ -47,3 +47,6 @@ field-fault-unique kind table r s = one-outcome
 
 check-table-unique : (kind : Kind) (table : List ℕ) (r s : Counted) → r ≡ countedOf kind table → s ≡ countedOf kind table → r ≡ s
 check-table-unique kind table r s = one-outcome
+
+fields-fault-unique : (h p c : List ℕ) (r s : Fault) → r ≡ firstOf (fieldsChecks h p c) → s ≡ firstOf (fieldsChecks h p c) → r ≡ s
+fields-fault-unique h p c r s = one-outcome

@@ -1,7 +1,7 @@
 -- The three tables: which number each has, how many records it may have, what a record of it is.
 use Prim.Native.Nat.{ℕ, _/_, _%_}
 use mathlib.Core.Bool.{Bool, _&&_}
-use mathlib.Core.List.{List, _∷_, map}
+use mathlib.Core.List.{List, _∷_, _++_, map}
 use lib.Dec.{eqb, leb}
 use lib.ListN.{length}
 use Rattle.records.specs.Chunks.{recordsOf, recordsFrom}
@@ -42,6 +42,10 @@ wholeTable kind bytes = eqb (bytes % 32) 0 && leb (bytes / 32) (limitOf kind)
 -- refusal 4, 'a field out of range': table, record
 unfoldable pub fieldChecks : Kind → List ℕ → List Check
 fieldChecks kind xs = askEach (goodRecord kind) 4 (tableNumber kind) 0 (recordsOf xs)
+
+-- 'then records by table (4)': holdings, placement, claims
+unfoldable pub fieldsChecks : List ℕ → List ℕ → List ℕ → List Check
+fieldsChecks h p c = fieldChecks Holdings h ++ (fieldChecks Placement p ++ fieldChecks Claims c)
 
 -- refusal 1, 'table not whole records or over its limit', then 4
 unfoldable pub tableChecks : Kind → List ℕ → List Check

@@ -21,5 +21,6 @@ pub use tables::Counted;
 pub use tables::Kind;
 pub use tables::check_table;
 pub use tables::field_fault;
+pub use tables::fields_fault;
 pub use tables::good_record;
 pub use tables::whole_table;

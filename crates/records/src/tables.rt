@@ -1,7 +1,7 @@
 // The three tables: holdings, placement, claims. One loop looks at the records of any of them.
 ghost use mathlib.Core.Path.{_≡_};
 ghost use Rattle.records.specs.Order.{firstOf};
-ghost use Rattle.records.specs.Tables.{tableNumber, limitOf, goodRecord, wholeTable, fieldChecks, countedOf};
+ghost use Rattle.records.specs.Tables.{tableNumber, limitOf, goodRecord, wholeTable, fieldChecks, fieldsChecks, countedOf};
 use crate::claims::good_claim;
 use crate::legs::good_leg;
 use crate::refusals::Fault;
@@ -78,6 +78,19 @@ pub fn field_fault(kind: Kind, table: &[u8]) -> Fault
         }
     }
     Fault::Nothing
+}
+
+// Refusal 4 of three tables, by table and then by record.
+pub fn fields_fault(holdings: &[u8], placement: &[u8], claims: &[u8]) -> Fault
+    ensures { λ r. ⌜ r ≡ firstOf (fieldsChecks (now (holdings .entry)) (now (placement .entry)) (now (claims .entry))) ⌝ }
+{
+    match field_fault(Kind::Holdings, holdings) {
+        Fault::Is(refusal) => Fault::Is(refusal),
+        Fault::Nothing => match field_fault(Kind::Placement, placement) {
+            Fault::Is(refusal) => Fault::Is(refusal),
+            Fault::Nothing => field_fault(Kind::Claims, claims),
+        },
+    }
 }
 
 // Refusal 1, then 4; else how many records there are.

@@ -10,7 +10,7 @@ use Rattle.records.specs.Lists.{All}
 use Rattle.records.specs.Chunks.{recordsOf}
 use Rattle.records.specs.Legs.{isShort}
 use Rattle.records.specs.Order.{firstOf, askEach}
-use Rattle.records.specs.Tables.{goodRecord, tableNumber, wholeTable, fieldChecks, legsOf, claimsOf}
+use Rattle.records.specs.Tables.{fieldsChecks, goodRecord, tableNumber, wholeTable, fieldChecks, legsOf, claimsOf}
 use Rattle.records.specs.declared.legs.Leg.{Leg}
 use Rattle.records.specs.declared.claims.Claim.{Claim}
 use Rattle.records.specs.declared.refusals.Fault.the-variants.{Nothing}
@@ -21,8 +21,9 @@ use Rattle.records.proofs.OrderLaws.{Pass, clear, unclear, pass-left, pass-righ
 use Rattle.records.proofs.TableLaws.{fields-good}
 use Rattle.spreads.specs.Spreads.{groupOf, spreadChecks}
 use Rattle.spreads.proofs.RuleLaws.{pass-spread, spread-pass}
+use Rattle.sheets.specs.Demands.{Sound, Kept}
 use Rattle.sheets.specs.Lines.{contractsOf, evenAt}
-use Rattle.sheets.specs.Sheets.{Numbered, Accepted, askNumbered, askClaim, askLines, ruleChecks, fieldsChecks, tablesChecks, sheetChecks}
+use Rattle.sheets.specs.Sheets.{Numbered, Accepted, askNumbered, askClaim, askLines, ruleChecks, tablesChecks, sheetChecks}
 use Rattle.sheets.proofs.LineLaws.{even-everywhere}
 
 -- ---- each stage and its fact
@@ -106,11 +107,6 @@ rule-pass h p c ok =
 
 -- ---- the three tables
 
--- 'whole records' within the limit, every field of every record in its range
-pub record Sound (kind : Kind) (xs : List ℕ) : Type 0 where
-  pub whole : wholeTable kind (length xs) ≡ true
-  pub fields : All (λ r. goodRecord kind r ≡ true) (recordsOf xs)
-
 pub fields-pass : (kind : Kind) (xs : List ℕ) → All (λ r. goodRecord kind r ≡ true) (recordsOf xs) → Pass (fieldChecks kind xs)
 unfolding fieldChecks
 fields-pass kind xs a = each-pass (goodRecord kind) 4 (tableNumber kind) 0 (recordsOf xs) a
@@ -136,13 +132,6 @@ tables-pass h p c sh sp sc = (
 )
 
 -- ---- the whole sheet, from its bytes
-
--- the tables are sound, and what they say keeps 'The rule of a sheet'
-pub record Kept (h p c : List ℕ) : Type 0 where
-  pub holdings : Sound Holdings h
-  pub placement : Sound Placement p
-  pub claims : Sound Claims c
-  pub rule : Accepted (legsOf h) (legsOf p) (claimsOf c)
 
 pub passes-kept : (h p c : List ℕ) → firstOf (sheetChecks h p c) ≡ Nothing → Kept h p c
 unfolding sheetChecks

@@ -12,3 +12,5 @@ pub mod DecimalLaws
 pub mod PieceLaws
 pub mod AmountLaws
 pub mod LineExamples
+pub mod FileVerdicts
+pub mod Unique

@@ -9,7 +9,7 @@ use lib.ListN.{length, take, set, length-append}
 use lib.Seq.{length-take-le}
 use Rattle.records.specs.Written.{putAt}
 use Rattle.records.specs.declared.refusals.Refusal.{Refusal}
-use Rattle.records.proofs.PutLaws.{put-none, put-more, put-after}
+use Rattle.records.proofs.PutLaws.{put-none, put-more, put-put}
 use Rattle.sheets.specs.Printed.{Wrote, acceptWord, refuseWord, space, newline, decimalOf, amountOf, acceptLine, refuseLine}
 
 -- one byte
@@ -21,19 +21,12 @@ wrote-byte d at b h =
       puts = ap (λ (l : List ℕ). set l at b) (put-none d at (b ∷ [])) ∙ (rw z at (put-more 0 d at (b ∷ []) 0 (omega arith) (omega arith)));
     }
 
--- one write after another
-put-put : (d : List ℕ) (at : ℕ) (p q : List ℕ) → at ≤ length d → putAt (putAt d at p) (at + length p) q ≡ putAt d at (p ++ q)
-unfolding putAt
-put-put d at p q h =
-    let front : length (take at d ++ p) ≡ at + length p = length-append (take at d) p ∙ ap (λ (n : ℕ). n + length p) (length-take-le at d h) in
-    put-after (take at d ++ p) q d (at + length p) front ∙ rw (length-append p q, add-assoc) (simp append-assoc)
-
 -- a piece, and the next piece where it ends
 pub wrote-then : {d e f : List ℕ} {at m n : ℕ} {p q : List ℕ} → at ≤ length d → Wrote d at p m e → Wrote e m q n f → Wrote d at (p ++ q) n f
 wrote-then {d} {e} {f} {at} {m} {n} {p} {q} h a b =
     record {
       ends = omega (arith, a .ends, b .ends, length-append p q);
-      puts = b .puts ∙ rw (a .puts, a .ends) (put-put d at p q h);
+      puts = b .puts ∙ rw (a .puts, a .ends) (put-put d p q at (at + length p) h refl);
     }
 
 pub wrote-is : {d e : List ℕ} {at n : ℕ} {p q : List ℕ} → p ≡ q → Wrote d at p n e → Wrote d at q n e

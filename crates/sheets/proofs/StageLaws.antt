@@ -9,7 +9,7 @@ use lib.Dec.{leb}
 use lib.IntN.{ℤ, pos}
 use lib.ListN.{length, getD, drop, List·getD-append}
 use Rattle.records.specs.Order.{Check, ask, firstOf, groups, inOrder, orElse}
-use Rattle.records.specs.Tables.{wholeTable, fieldChecks, tableChecks, legsOf, claimsOf}
+use Rattle.records.specs.Tables.{fieldsChecks, wholeTable, fieldChecks, tableChecks, legsOf, claimsOf}
 use Rattle.records.specs.Written.{putAt}
 use Rattle.records.specs.declared.claims.Claim.{Claim}
 use Rattle.records.specs.declared.legs.Leg.{Leg}
@@ -25,7 +25,7 @@ use Rattle.spreads.specs.Spreads.{groupOf, spreadChecks}
 use Rattle.spreads.specs.Strikes.{marginOf}
 use Rattle.spreads.specs.declared.calls.Listed.the-variants.{Entries, Refused}
 use Rattle.spreads.proofs.Answers.{margin-at, length-margins}
-use Rattle.sheets.specs.Sheets.{claimFor, askNumbered, askNamed, askLines, askPlaced, askClaim, ruleChecks, fieldsChecks, tablesChecks}
+use Rattle.sheets.specs.Sheets.{claimFor, askNumbered, askNamed, askLines, askPlaced, askClaim, ruleChecks, tablesChecks}
 use Rattle.sheets.specs.Verdicts.{Tabled, askListed, listedChecks, groupsRule}
 
 -- ---- what tables that passed 1 and 4 are

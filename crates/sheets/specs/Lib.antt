@@ -2,3 +2,4 @@ pub mod Lines
 pub mod Sheets
 pub mod Verdicts
 pub mod Printed
+pub mod Demands

@@ -9,7 +9,7 @@ use lib.ListN.{length, getD}
 use Rattle.records.specs.Lists.{All, sum}
 use Rattle.records.specs.Legs.{isShort}
 use Rattle.records.specs.Order.{Check, ask, askEach, groups, inOrder}
-use Rattle.records.specs.Tables.{wholeTable, fieldChecks, legsOf, claimsOf}
+use Rattle.records.specs.Tables.{wholeTable, fieldsChecks, legsOf, claimsOf}
 use Rattle.records.specs.declared.legs.Leg.{Leg}
 use Rattle.records.specs.declared.claims.Claim.{Claim}
 use Rattle.records.specs.declared.tables.Kind.the-variants.{Holdings, Placement, Claims}
@@ -68,10 +68,6 @@ ruleChecks h p c =
     ∷ askPlaced p
     ∷ groups (length c) (askClaim p c)
     ∷ [])
-
--- 4, 'records by table'
-unfoldable pub fieldsChecks : List ℕ → List ℕ → List ℕ → List Check
-fieldsChecks h p c = fieldChecks Holdings h ++ (fieldChecks Placement p ++ fieldChecks Claims c)
 
 -- 1, 'table not whole records or over its limit', then 4
 unfoldable pub tablesChecks : List ℕ → List ℕ → List ℕ → List Check

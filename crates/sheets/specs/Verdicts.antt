@@ -13,6 +13,8 @@ use Rattle.records.specs.declared.claims.Claim.{Claim}
 use Rattle.records.specs.declared.refusals.Fault.{Fault}
 use Rattle.records.specs.declared.refusals.Fault.the-variants.{Nothing, Is}
 use Rattle.records.specs.declared.legs.Leg.{Leg}
+use Rattle.blocks.specs.File.{tablesIn}
+use Rattle.blocks.specs.Reader.{readChecks}
 use Rattle.spreads.specs.Spreads.{groupOf, spreadChecks}
 use Rattle.sheets.specs.Sheets.{claimFor, askLines, askPlaced, askClaim, tablesChecks, sheetChecks, totalOf}
 use Rattle.sheets.specs.declared.sheet.Verdict.{Verdict}
@@ -24,6 +26,17 @@ verdictIn (Is r) n total = Refused r
 
 unfoldable pub verdictOf : List ℕ → List ℕ → List ℕ → Verdict
 verdictOf h p c = verdictIn (firstOf (sheetChecks h p c)) (length (claimsOf c)) (totalOf (claimsOf c))
+
+-- ---- of a file's bytes: the reader's refusals, then the sheet's
+
+abbrev pub afterReading : Fault → Verdict → Verdict
+afterReading Nothing verdict = verdict
+afterReading (Is r) verdict = Refused r
+
+unfoldable pub fileVerdict : List ℕ → Verdict
+fileVerdict file =
+    afterReading (firstOf (readChecks file))
+    (verdictOf (tablesIn file .holdings) (tablesIn file .placement) (tablesIn file .claims))
 
 -- ---- inside: the stages of the check, one after the other
 

@@ -6,7 +6,7 @@ ghost use Rattle.records.specs.Order.{firstOf};
 ghost use Rattle.records.specs.Tables.{fieldChecks, legsOf, claimsOf};
 ghost use Rattle.records.specs.declared.refusals.Fault.the-variants.{Nothing};
 ghost use Rattle.records.specs.declared.tables.Kind.the-variants.{Claims};
-ghost use Rattle.sheets.specs.Sheets.{fieldsChecks, tablesChecks, ruleChecks, sheetChecks};
+ghost use Rattle.sheets.specs.Sheets.{tablesChecks, ruleChecks, sheetChecks};
 ghost use Rattle.sheets.specs.Verdicts.{verdictOf, Tabled, listedChecks, groupsRule};
 use crate::claims::claims_fault;
 use crate::claims::named_fault;
@@ -33,25 +33,13 @@ fn tables_fault(holdings: &[u8], placement: &[u8], claims: &[u8]) -> Fault
         & records::whole_table(Kind::Placement, placement.len())
         & records::whole_table(Kind::Claims, claims.len())
     {
-        return fields_fault(holdings, placement, claims);
+        return records::fields_fault(holdings, placement, claims);
     }
     Fault::Is(Refusal {
         number: 1,
         table: 0,
         place: 0,
     })
-}
-
-fn fields_fault(holdings: &[u8], placement: &[u8], claims: &[u8]) -> Fault
-    ensures { λ r. ⌜ r ≡ firstOf (fieldsChecks (now (holdings .entry)) (now (placement .entry)) (now (claims .entry))) ⌝ }
-{
-    match records::field_fault(Kind::Holdings, holdings) {
-        Fault::Is(refusal) => Fault::Is(refusal),
-        Fault::Nothing => match records::field_fault(Kind::Placement, placement) {
-            Fault::Is(refusal) => Fault::Is(refusal),
-            Fault::Nothing => records::field_fault(Kind::Claims, claims),
-        },
-    }
 }
 
 // 14, 15 and 16, where the margins of the groups are known.

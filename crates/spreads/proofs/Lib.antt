@@ -15,3 +15,4 @@ pub mod Worths
 pub mod Ascending
 pub mod Walks
 pub mod Answers
+pub mod Unique

@@ -13,9 +13,6 @@ use mathlib.Core.Path.{_≡_, refl, sym, _∙_}
 use Prim.Native.Nat.{_≤_, _-_, _+_, _*_, _/_}
 use Rattle.sheets.proofs.claims.claims_fault.Statement.{statement}
 use Rattle.sheets.proofs.claims.claims_fault.Tie as tie
-use Rattle.sheets.proofs.claims.claims_fault.Reads as reads
-use Rattle.sheets.proofs.claims.claims_fault.Lts as lts
-use Rattle.records.proofs.claim_of.Reads as claim-of-reads
 
 abbrev Inv-loop : tie.InvT-loop
 Inv-loop claims margins n k₀ k = (n ≡ length claims / 32) × (k ≤ n) × (firstOf (groups k (askListed margins (claimsOf claims))) ≡ Nothing)
@@ -26,42 +23,12 @@ abbrev μ-loop : tie.MeasureT-loop
 loop-holds : tie.Need-loop-holds Inv-loop μ-loop
 loop-holds c = (refl, omega arith, groups-none _)
 
-mul-at : tie.Need-mul-at Inv-loop μ-loop
-mul-at c = omega arith
-
-add-end : tie.Need-add-end Inv-loop μ-loop
-add-end c = omega arith
-
-sub-claim-of : tie.Need-sub-claim-of Inv-loop μ-loop
-sub-claim-of c = omega arith
-
-part-claim-of-start : tie.Need-part-claim-of-start Inv-loop μ-loop
-part-claim-of-start c = omega arith
-
-part-claim-of-end : tie.Need-part-claim-of-end Inv-loop μ-loop
-part-claim-of-end c = omega arith
-
-claim-of-requires : tie.Need-claim-of-requires Inv-loop μ-loop
-claim-of-requires c κs = search needs
-
 cast-if1 : tie.Need-cast-if1 Inv-loop μ-loop
 cast-if1 c =
     let t = c .before .before .before .before in
     let a = t .before .before .args in
     let s = claim-small (now (a .claims)) (t .loop .k) (omega arith) (c .before .claim-of .result) (c .before .claim-of .ensures) (c .before .before .before .before .before .before .pre .0) in
     omega arith
-
-mul-if1 : tie.Need-mul-if1 Inv-loop μ-loop
-mul-if1 c = omega arith
-
-shared-slice-copy-out-if1 : tie.Need-shared-slice-copy-out-if1 Inv-loop μ-loop
-shared-slice-copy-out-if1 c = omega arith
-
-add-k : tie.Need-add-k Inv-loop μ-loop
-add-k c = omega arith
-
-loop-less : tie.Need-loop-less Inv-loop μ-loop
-loop-less c = omega arith
 
 loop-again : tie.Need-loop-again Inv-loop μ-loop
 loop-again c =
@@ -72,9 +39,6 @@ loop-again c =
       groups-more _ (t .loop .k) (t .loop .inv .2)
           (listed-good (now (a .margins)) (claimsOf (now (a .claims))) (t .loop .k) _ (claim-at (now (a .claims)) (t .loop .k) (omega arith) (c .before .before .before .claim-of .result) (c .before .before .before .claim-of .ensures)) (c .if1 .taken)),
     )
-
-add-t17 : tie.Need-add-t17 Inv-loop μ-loop
-add-t17 c = omega arith
 
 returns : tie.Need-returns Inv-loop μ-loop
 returns c =
@@ -96,18 +60,18 @@ claims-fault-spec =
     Inv-loop
     μ-loop
     loop-holds
-    mul-at
-    add-end
-    sub-claim-of
-    part-claim-of-start
-    part-claim-of-end
-    claim-of-requires
+    (λ c. omega arith)
+    (λ c. omega arith)
+    (λ c. omega arith)
+    (λ c. omega arith)
+    (λ c. omega arith)
+    (λ c κs. search needs)
     cast-if1
-    mul-if1
-    shared-slice-copy-out-if1
-    add-k
-    loop-less
+    (λ c. omega arith)
+    (λ c. omega arith)
+    (λ c. omega arith)
+    (λ c. omega arith)
     loop-again
-    add-t17
+    (λ c. omega arith)
     returns
     returns-2)

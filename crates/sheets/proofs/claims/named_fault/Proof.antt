@@ -13,9 +13,6 @@ use mathlib.Core.Path.{_≡_, refl, sym, _∙_}
 use Prim.Native.Nat.{_≤_, _-_, _+_, _*_, _/_}
 use Rattle.sheets.proofs.claims.named_fault.Statement.{statement}
 use Rattle.sheets.proofs.claims.named_fault.Tie as tie
-use Rattle.sheets.proofs.claims.named_fault.Reads as reads
-use Rattle.sheets.proofs.claims.named_fault.Lts as lts
-use Rattle.records.proofs.leg_of.Reads as leg-of-reads
 
 abbrev Inv-loop : tie.InvT-loop
 Inv-loop placement most n i₀ i = (n ≡ length placement / 32) × (i ≤ n) × (firstOf (askNamed most (legsOf placement)) ≡ firstOf (askEach (λ l. leb (l .group) most) 5 2 i (legsFrom placement i)))
@@ -25,33 +22,6 @@ abbrev μ-loop : tie.MeasureT-loop
 
 loop-holds : tie.Need-loop-holds Inv-loop μ-loop
 loop-holds c = (refl, omega arith, search-holds (λ l. leb (l .group) (c .before .args .most)) 5 2 (now (c .before .args .placement)) 0)
-
-mul-at : tie.Need-mul-at Inv-loop μ-loop
-mul-at c = omega arith
-
-add-end : tie.Need-add-end Inv-loop μ-loop
-add-end c = omega arith
-
-sub-leg-of : tie.Need-sub-leg-of Inv-loop μ-loop
-sub-leg-of c = omega arith
-
-part-leg-of-start : tie.Need-part-leg-of-start Inv-loop μ-loop
-part-leg-of-start c = omega arith
-
-part-leg-of-end : tie.Need-part-leg-of-end Inv-loop μ-loop
-part-leg-of-end c = omega arith
-
-leg-of-requires : tie.Need-leg-of-requires Inv-loop μ-loop
-leg-of-requires c κs = search needs
-
-cast-if1 : tie.Need-cast-if1 Inv-loop μ-loop
-cast-if1 c = omega arith
-
-add-i : tie.Need-add-i Inv-loop μ-loop
-add-i c = omega arith
-
-loop-less : tie.Need-loop-less Inv-loop μ-loop
-loop-less c = omega arith
 
 loop-again : tie.Need-loop-again Inv-loop μ-loop
 loop-again c =
@@ -77,15 +47,15 @@ named-fault-spec =
     Inv-loop
     μ-loop
     loop-holds
-    mul-at
-    add-end
-    sub-leg-of
-    part-leg-of-start
-    part-leg-of-end
-    leg-of-requires
-    cast-if1
-    add-i
-    loop-less
+    (λ c. omega arith)
+    (λ c. omega arith)
+    (λ c. omega arith)
+    (λ c. omega arith)
+    (λ c. omega arith)
+    (λ c κs. search needs)
+    (λ c. omega arith)
+    (λ c. omega arith)
+    (λ c. omega arith)
     loop-again
     returns
     returns-2)

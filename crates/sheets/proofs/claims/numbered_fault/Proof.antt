@@ -12,9 +12,6 @@ use mathlib.Core.Path.{_≡_, refl, sym, _∙_}
 use Prim.Native.Nat.{_≤_, _-_, _+_, _*_, _/_}
 use Rattle.sheets.proofs.claims.numbered_fault.Statement.{statement}
 use Rattle.sheets.proofs.claims.numbered_fault.Tie as tie
-use Rattle.sheets.proofs.claims.numbered_fault.Reads as reads
-use Rattle.sheets.proofs.claims.numbered_fault.Lts as lts
-use Rattle.records.proofs.claim_of.Reads as claim-of-reads
 
 abbrev Inv-loop : tie.InvT-loop
 Inv-loop claims n i₀ i = (n ≡ length claims / 32) × (i ≤ n) × (firstOf (askNumbered 0 (claimsOf claims)) ≡ firstOf (askNumbered i (claimsFrom claims i)))
@@ -24,36 +21,6 @@ abbrev μ-loop : tie.MeasureT-loop
 
 loop-holds : tie.Need-loop-holds Inv-loop μ-loop
 loop-holds c = (refl, omega arith, rw (claims-all (now (c .before .args .claims))))
-
-mul-at : tie.Need-mul-at Inv-loop μ-loop
-mul-at c = omega arith
-
-add-end : tie.Need-add-end Inv-loop μ-loop
-add-end c = omega arith
-
-sub-claim-of : tie.Need-sub-claim-of Inv-loop μ-loop
-sub-claim-of c = omega arith
-
-part-claim-of-start : tie.Need-part-claim-of-start Inv-loop μ-loop
-part-claim-of-start c = omega arith
-
-part-claim-of-end : tie.Need-part-claim-of-end Inv-loop μ-loop
-part-claim-of-end c = omega arith
-
-claim-of-requires : tie.Need-claim-of-requires Inv-loop μ-loop
-claim-of-requires c κs = search needs
-
-cast-if1 : tie.Need-cast-if1 Inv-loop μ-loop
-cast-if1 c = omega arith
-
-add-if1 : tie.Need-add-if1 Inv-loop μ-loop
-add-if1 c = omega arith
-
-add-i : tie.Need-add-i Inv-loop μ-loop
-add-i c = omega arith
-
-loop-less : tie.Need-loop-less Inv-loop μ-loop
-loop-less c = omega arith
 
 loop-again : tie.Need-loop-again Inv-loop μ-loop
 loop-again c =
@@ -79,16 +46,16 @@ numbered-fault-spec =
     Inv-loop
     μ-loop
     loop-holds
-    mul-at
-    add-end
-    sub-claim-of
-    part-claim-of-start
-    part-claim-of-end
-    claim-of-requires
-    cast-if1
-    add-if1
-    add-i
-    loop-less
+    (λ c. omega arith)
+    (λ c. omega arith)
+    (λ c. omega arith)
+    (λ c. omega arith)
+    (λ c. omega arith)
+    (λ c κs. search needs)
+    (λ c. omega arith)
+    (λ c. omega arith)
+    (λ c. omega arith)
+    (λ c. omega arith)
     loop-again
     returns
     returns-2)

@@ -12,11 +12,6 @@ use mathlib.Core.Path.{_≡_, refl, sym, _∙_}
 use Prim.Native.Nat.{_≤_, _-_, _+_, _*_, _/_}
 use Rattle.sheets.proofs.lines.contracts_of.Statement.{statement}
 use Rattle.sheets.proofs.lines.contracts_of.Tie as tie
-use Rattle.sheets.proofs.lines.contracts_of.Reads as reads
-use Rattle.sheets.proofs.lines.contracts_of.Lts as lts
-use Rattle.records.proofs.counts.Contracts.number.Reads as number-reads
-use Rattle.records.proofs.leg_of.Reads as leg-of-reads
-use Rattle.sheets.proofs.lines.same_line_side.Reads as same-line-side-reads
 
 abbrev Inv-loop : tie.InvT-loop
 Inv-loop leg table n contracts₀ i₀ contracts i = (n ≡ length table / 32) × (i ≤ n) × (contracts ≤ 4294967295 * i) × (contracts + contractsOf leg (legsFrom table i) ≡ contractsOf leg (legsOf table))
@@ -26,42 +21,6 @@ abbrev μ-loop : tie.MeasureT-loop
 
 loop-holds : tie.Need-loop-holds Inv-loop μ-loop
 loop-holds c = (refl, omega arith, omega arith, rw (legs-all (now (c .before .args .table))) (omega arith))
-
-mul-at : tie.Need-mul-at Inv-loop μ-loop
-mul-at c = omega arith
-
-add-end : tie.Need-add-end Inv-loop μ-loop
-add-end c = omega arith
-
-sub-leg-of : tie.Need-sub-leg-of Inv-loop μ-loop
-sub-leg-of c = omega arith
-
-part-leg-of-start : tie.Need-part-leg-of-start Inv-loop μ-loop
-part-leg-of-start c = omega arith
-
-part-leg-of-end : tie.Need-part-leg-of-end Inv-loop μ-loop
-part-leg-of-end c = omega arith
-
-leg-of-requires : tie.Need-leg-of-requires Inv-loop μ-loop
-leg-of-requires c κs = search needs
-
-same-line-side-requires : tie.Need-same-line-side-requires Inv-loop μ-loop
-same-line-side-requires c κs = search needs
-
-number-requires : tie.Need-number-requires Inv-loop μ-loop
-number-requires c κs = search needs
-
-cast-contracts : tie.Need-cast-contracts Inv-loop μ-loop
-cast-contracts c = omega arith
-
-add-contracts : tie.Need-add-contracts Inv-loop μ-loop
-add-contracts c = omega arith
-
-add-i : tie.Need-add-i Inv-loop μ-loop
-add-i c = omega arith
-
-loop-less : tie.Need-loop-less Inv-loop μ-loop
-loop-less c = omega arith
 
 loop-again : tie.Need-loop-again Inv-loop μ-loop
 loop-again c =
@@ -88,17 +47,17 @@ contracts-of-spec =
     Inv-loop
     μ-loop
     loop-holds
-    mul-at
-    add-end
-    sub-leg-of
-    part-leg-of-start
-    part-leg-of-end
-    leg-of-requires
-    same-line-side-requires
-    number-requires
-    cast-contracts
-    add-contracts
-    add-i
-    loop-less
+    (λ c. omega arith)
+    (λ c. omega arith)
+    (λ c. omega arith)
+    (λ c. omega arith)
+    (λ c. omega arith)
+    (λ c κs. search needs)
+    (λ c κs. search needs)
+    (λ c κs. search needs)
+    (λ c. omega arith)
+    (λ c. omega arith)
+    (λ c. omega arith)
+    (λ c. omega arith)
     loop-again
     returns)

@@ -12,10 +12,6 @@ use mathlib.Core.Path.{_≡_, refl, sym, _∙_}
 use Prim.Native.Nat.{_≤_, _-_, _+_, _*_, _/_}
 use Rattle.sheets.proofs.lines.first_uneven.Statement.{statement}
 use Rattle.sheets.proofs.lines.first_uneven.Tie as tie
-use Rattle.sheets.proofs.lines.first_uneven.Reads as reads
-use Rattle.sheets.proofs.lines.first_uneven.Lts as lts
-use Rattle.records.proofs.leg_of.Reads as leg-of-reads
-use Rattle.sheets.proofs.lines.contracts_of.Reads as contracts-of-reads
 
 abbrev Inv-loop : tie.InvT-loop
 Inv-loop holdings placement table number n i₀ i =
@@ -28,36 +24,6 @@ abbrev μ-loop : tie.MeasureT-loop
 
 loop-holds : tie.Need-loop-holds Inv-loop μ-loop
 loop-holds c = let a = c .before .before .before .args in (refl, omega arith, search-holds (evenAt (legsOf (now (a .holdings))) (legsOf (now (a .placement)))) 14 (a .number) (now (a .table)) 0)
-
-mul-at : tie.Need-mul-at Inv-loop μ-loop
-mul-at c = omega arith
-
-add-end : tie.Need-add-end Inv-loop μ-loop
-add-end c = omega arith
-
-sub-leg-of : tie.Need-sub-leg-of Inv-loop μ-loop
-sub-leg-of c = omega arith
-
-part-leg-of-start : tie.Need-part-leg-of-start Inv-loop μ-loop
-part-leg-of-start c = omega arith
-
-part-leg-of-end : tie.Need-part-leg-of-end Inv-loop μ-loop
-part-leg-of-end c = omega arith
-
-leg-of-requires : tie.Need-leg-of-requires Inv-loop μ-loop
-leg-of-requires c κs = search needs
-
-contracts-of-requires : tie.Need-contracts-of-requires Inv-loop μ-loop
-contracts-of-requires c κs = search needs
-
-contracts-of-requires-2 : tie.Need-contracts-of-requires-2 Inv-loop μ-loop
-contracts-of-requires-2 c κs = search needs
-
-add-i : tie.Need-add-i Inv-loop μ-loop
-add-i c = omega arith
-
-loop-less : tie.Need-loop-less Inv-loop μ-loop
-loop-less c = omega arith
 
 loop-again : tie.Need-loop-again Inv-loop μ-loop
 unfolding evenAt
@@ -92,16 +58,16 @@ first-uneven-spec =
     Inv-loop
     μ-loop
     loop-holds
-    mul-at
-    add-end
-    sub-leg-of
-    part-leg-of-start
-    part-leg-of-end
-    leg-of-requires
-    contracts-of-requires
-    contracts-of-requires-2
-    add-i
-    loop-less
+    (λ c. omega arith)
+    (λ c. omega arith)
+    (λ c. omega arith)
+    (λ c. omega arith)
+    (λ c. omega arith)
+    (λ c κs. search needs)
+    (λ c κs. search needs)
+    (λ c κs. search needs)
+    (λ c. omega arith)
+    (λ c. omega arith)
     loop-again
     returns
     returns-2)

@@ -5,21 +5,6 @@ use mathlib.Core.Path.{_≡_, sym, _∙_}
 use borrow.Author.Needs.{needs}
 use Rattle.sheets.proofs.lines.lines_fault.Statement.{statement}
 use Rattle.sheets.proofs.lines.lines_fault.Tie as tie
-use Rattle.sheets.proofs.lines.lines_fault.Reads as reads
-use Rattle.sheets.proofs.lines.lines_fault.Lts as lts
-use Rattle.sheets.proofs.lines.first_uneven.Reads as first-uneven-reads
-
-first-uneven-requires : tie.Need-first-uneven-requires
-first-uneven-requires c κs = search needs
-
-enum-known-refusal : tie.Need-enum-known-refusal
-enum-known-refusal c = search needs
-
-enum-told : tie.Need-enum-told
-enum-told c = search needs
-
-first-uneven-requires-2 : tie.Need-first-uneven-requires-2
-first-uneven-requires-2 c κs = search needs
 
 returns : tie.Need-returns
 unfolding askLines
@@ -33,9 +18,9 @@ pub lines-fault-spec : {M : Type 1} → statement M
 lines-fault-spec =
     tie.close
     (tie.spec
-    first-uneven-requires
-    enum-known-refusal
-    enum-told
-    first-uneven-requires-2
+    (λ c κs. search needs)
+    (λ c. search needs)
+    (λ c. search needs)
+    (λ c κs. search needs)
     returns
     returns-2)

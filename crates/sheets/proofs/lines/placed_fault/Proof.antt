@@ -15,9 +15,6 @@ use mathlib.Core.Path.{_≡_, refl, sym, _∙_}
 use Prim.Native.Nat.{_≤_, _-_, _+_, _*_, _/_}
 use Rattle.sheets.proofs.lines.placed_fault.Statement.{statement}
 use Rattle.sheets.proofs.lines.placed_fault.Tie as tie
-use Rattle.sheets.proofs.lines.placed_fault.Reads as reads
-use Rattle.sheets.proofs.lines.placed_fault.Lts as lts
-use Rattle.records.proofs.leg_of.Reads as leg-of-reads
 
 abbrev Inv-loop : tie.InvT-loop
 Inv-loop placement n i₀ i = (n ≡ length placement / 32) × (i ≤ n) × (firstOf (askPlaced (legsOf placement)) ≡ firstOf (askEach (λ l. not (isShort l && eqb (l .group) 0)) 15 2 i (legsFrom placement i)))
@@ -28,35 +25,11 @@ abbrev μ-loop : tie.MeasureT-loop
 loop-holds : tie.Need-loop-holds Inv-loop μ-loop
 loop-holds c = (refl, omega arith, search-holds (λ l. not (isShort l && eqb (l .group) 0)) 15 2 (now (c .before .args .placement)) 0)
 
-mul-at : tie.Need-mul-at Inv-loop μ-loop
-mul-at c = omega arith
-
-add-end : tie.Need-add-end Inv-loop μ-loop
-add-end c = omega arith
-
-sub-leg-of : tie.Need-sub-leg-of Inv-loop μ-loop
-sub-leg-of c = omega arith
-
-part-leg-of-start : tie.Need-part-leg-of-start Inv-loop μ-loop
-part-leg-of-start c = omega arith
-
-part-leg-of-end : tie.Need-part-leg-of-end Inv-loop μ-loop
-part-leg-of-end c = omega arith
-
-leg-of-requires : tie.Need-leg-of-requires Inv-loop μ-loop
-leg-of-requires c κs = search needs
-
 returns : tie.Need-returns Inv-loop μ-loop
 returns c =
     let t = c .before .before .before .before .before .before in
     let a = t .before .before .args in
     search-bad (λ l. not (isShort l && eqb (l .group) 0)) 15 2 (now (a .placement)) (t .loop .i) (t .loop .inv .2) (c .before .before .before .leg-of .result) (c .before .before .before .leg-of .ensures) (omega arith) (ap not (c .if1 .taken))
-
-add-i : tie.Need-add-i Inv-loop μ-loop
-add-i c = omega arith
-
-loop-less : tie.Need-loop-less Inv-loop μ-loop
-loop-less c = omega arith
 
 loop-again : tie.Need-loop-again Inv-loop μ-loop
 loop-again c =
@@ -76,14 +49,14 @@ placed-fault-spec =
     Inv-loop
     μ-loop
     loop-holds
-    mul-at
-    add-end
-    sub-leg-of
-    part-leg-of-start
-    part-leg-of-end
-    leg-of-requires
+    (λ c. omega arith)
+    (λ c. omega arith)
+    (λ c. omega arith)
+    (λ c. omega arith)
+    (λ c. omega arith)
+    (λ c κs. search needs)
     returns
-    add-i
-    loop-less
+    (λ c. omega arith)
+    (λ c. omega arith)
     loop-again
     returns-2)

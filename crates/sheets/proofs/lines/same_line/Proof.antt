@@ -3,8 +3,6 @@ use borrow.Author.Needs.{needs}
 use Rattle.sheets.specs.Lines.{sameLine}
 use Rattle.sheets.proofs.lines.same_line.Statement.{statement}
 use Rattle.sheets.proofs.lines.same_line.Tie as tie
-use Rattle.sheets.proofs.lines.same_line.Reads as reads
-use Rattle.sheets.proofs.lines.same_line.Lts as lts
 
 returns : tie.Need-returns
 unfolding sameLine

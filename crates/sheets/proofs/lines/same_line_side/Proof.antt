@@ -3,16 +3,10 @@ use Rattle.sheets.specs.Lines.{sameLineSide}
 use borrow.Author.Needs.{needs}
 use Rattle.sheets.proofs.lines.same_line_side.Statement.{statement}
 use Rattle.sheets.proofs.lines.same_line_side.Tie as tie
-use Rattle.sheets.proofs.lines.same_line_side.Reads as reads
-use Rattle.sheets.proofs.lines.same_line_side.Lts as lts
-use Rattle.sheets.proofs.lines.same_line.Reads as same-line-reads
-
-same-line-requires : tie.Need-same-line-requires
-same-line-requires c κs = search needs
 
 returns : tie.Need-returns
 unfolding sameLineSide
 returns c = cc
 
 pub same-line-side-spec : {M : Type 1} → statement M
-same-line-side-spec = tie.close (tie.spec same-line-requires returns)
+same-line-side-spec = tie.close (tie.spec (λ c κs. search needs) returns)

@@ -11,19 +11,6 @@ use mathlib.Core.Path.{_≡_, refl, sym, ap, _∙_}
 use borrow.Author.Needs.{needs}
 use Rattle.sheets.proofs.sheet.check_sheet.Statement.{statement}
 use Rattle.sheets.proofs.sheet.check_sheet.Tie as tie
-use Rattle.sheets.proofs.sheet.check_sheet.Reads as reads
-use Rattle.sheets.proofs.sheet.check_sheet.Lts as lts
-use Rattle.sheets.proofs.claims.total_of.Reads as total-of-reads
-use Rattle.sheets.proofs.sheet.sheet_fault.Reads as sheet-fault-reads
-
-sheet-fault-requires : tie.Need-sheet-fault-requires
-sheet-fault-requires c κs = search needs
-
-enum-known-refusal : tie.Need-enum-known-refusal
-enum-known-refusal c = search needs
-
-enum-told : tie.Need-enum-told
-enum-told c = search needs
 
 total-of-requires : tie.Need-total-of-requires
 total-of-requires c κs =
@@ -53,9 +40,9 @@ pub check-sheet-spec : {M : Type 1} → statement M
 check-sheet-spec =
     tie.close
     (tie.spec
-    sheet-fault-requires
-    enum-known-refusal
-    enum-told
+    (λ c κs. search needs)
+    (λ c. search needs)
+    (λ c. search needs)
     total-of-requires
     cast-t10
     returns

@@ -4,25 +4,6 @@ use mathlib.Core.Path.{_≡_, refl, sym, ap, _∙_}
 use borrow.Author.Needs.{needs}
 use Rattle.sheets.proofs.sheet.groups_fault.Statement.{statement}
 use Rattle.sheets.proofs.sheet.groups_fault.Tie as tie
-use Rattle.sheets.proofs.sheet.groups_fault.Reads as reads
-use Rattle.sheets.proofs.sheet.groups_fault.Lts as lts
-use Rattle.sheets.proofs.sheet.placed_claims_fault.Reads as placed-claims-fault-reads
-use Rattle.spreads.proofs.margins.Reads as margins-reads
-
-slice-aggregate-margins : tie.Need-slice-aggregate-margins
-slice-aggregate-margins c = search needs
-
-margins-requires : tie.Need-margins-requires
-margins-requires c κs = search needs
-
-enum-known-refusal : tie.Need-enum-known-refusal
-enum-known-refusal c = search needs
-
-enum-told : tie.Need-enum-told
-enum-told c = search needs
-
-slice-aggregate-placed-claims-fault : tie.Need-slice-aggregate-placed-claims-fault
-slice-aggregate-placed-claims-fault c = search needs
 
 placed-claims-fault-requires : tie.Need-placed-claims-fault-requires
 placed-claims-fault-requires c κs =
@@ -48,11 +29,11 @@ pub groups-fault-spec : {M : Type 1} → statement M
 groups-fault-spec =
     tie.close
     (tie.spec
-    slice-aggregate-margins
-    margins-requires
-    enum-known-refusal
-    enum-told
-    slice-aggregate-placed-claims-fault
+    (λ c. search needs)
+    (λ c κs. search needs)
+    (λ c. search needs)
+    (λ c. search needs)
+    (λ c. search needs)
     placed-claims-fault-requires
     returns
     returns-2)

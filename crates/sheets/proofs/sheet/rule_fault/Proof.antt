@@ -5,32 +5,6 @@ use mathlib.Core.Path.{_≡_, refl, sym, ap, _∙_}
 use borrow.Author.Needs.{needs}
 use Rattle.sheets.proofs.sheet.rule_fault.Statement.{statement}
 use Rattle.sheets.proofs.sheet.rule_fault.Tie as tie
-use Rattle.sheets.proofs.sheet.rule_fault.Reads as reads
-use Rattle.sheets.proofs.sheet.rule_fault.Lts as lts
-use Rattle.sheets.proofs.claims.named_fault.Reads as named-fault-reads
-use Rattle.sheets.proofs.claims.numbered_fault.Reads as numbered-fault-reads
-use Rattle.sheets.proofs.sheet.groups_fault.Reads as groups-fault-reads
-
-numbered-fault-requires : tie.Need-numbered-fault-requires
-numbered-fault-requires c κs = search needs
-
-enum-known-refusal : tie.Need-enum-known-refusal
-enum-known-refusal c = search needs
-
-enum-told : tie.Need-enum-told
-enum-told c = search needs
-
-named-fault-requires : tie.Need-named-fault-requires
-named-fault-requires c κs = search needs
-
-enum-known-refusal-2 : tie.Need-enum-known-refusal-2
-enum-known-refusal-2 c = search needs
-
-enum-told-2 : tie.Need-enum-told-2
-enum-told-2 c = search needs
-
-groups-fault-requires : tie.Need-groups-fault-requires
-groups-fault-requires c κs = search needs
 
 returns : tie.Need-returns
 returns c = rw (rule-stages, first-append, sym (c .before .before .before .numbered-fault .ensures) ∙ c .before .refusal .given .1)
@@ -45,13 +19,13 @@ pub rule-fault-spec : {M : Type 1} → statement M
 rule-fault-spec =
     tie.close
     (tie.spec
-    numbered-fault-requires
-    enum-known-refusal
-    enum-told
-    named-fault-requires
-    enum-known-refusal-2
-    enum-told-2
-    groups-fault-requires
+    (λ c κs. search needs)
+    (λ c. search needs)
+    (λ c. search needs)
+    (λ c κs. search needs)
+    (λ c. search needs)
+    (λ c. search needs)
+    (λ c κs. search needs)
     returns
     returns-2
     returns-3)

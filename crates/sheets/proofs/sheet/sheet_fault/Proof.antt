@@ -4,19 +4,6 @@ use mathlib.Core.Path.{_≡_, refl, sym, ap, _∙_}
 use borrow.Author.Needs.{needs}
 use Rattle.sheets.proofs.sheet.sheet_fault.Statement.{statement}
 use Rattle.sheets.proofs.sheet.sheet_fault.Tie as tie
-use Rattle.sheets.proofs.sheet.sheet_fault.Reads as reads
-use Rattle.sheets.proofs.sheet.sheet_fault.Lts as lts
-use Rattle.sheets.proofs.sheet.rule_fault.Reads as rule-fault-reads
-use Rattle.sheets.proofs.sheet.tables_fault.Reads as tables-fault-reads
-
-tables-fault-requires : tie.Need-tables-fault-requires
-tables-fault-requires c κs = search needs
-
-enum-known-refusal : tie.Need-enum-known-refusal
-enum-known-refusal c = search needs
-
-enum-told : tie.Need-enum-told
-enum-told c = search needs
 
 rule-fault-requires : tie.Need-rule-fault-requires
 rule-fault-requires c κs = record { passed = sym (c .before .before .tables-fault .ensures) ∙ c .enum-told .given .1 }
@@ -33,9 +20,9 @@ pub sheet-fault-spec : {M : Type 1} → statement M
 sheet-fault-spec =
     tie.close
     (tie.spec
-    tables-fault-requires
-    enum-known-refusal
-    enum-told
+    (λ c κs. search needs)
+    (λ c. search needs)
+    (λ c. search needs)
     rule-fault-requires
     returns
     returns-2)

@@ -5,22 +5,6 @@ use mathlib.Core.Path.{_≡_, sym, _∙_}
 use borrow.Author.Needs.{needs}
 use Rattle.sheets.proofs.sheet.tables_fault.Statement.{statement}
 use Rattle.sheets.proofs.sheet.tables_fault.Tie as tie
-use Rattle.sheets.proofs.sheet.tables_fault.Reads as reads
-use Rattle.sheets.proofs.sheet.tables_fault.Lts as lts
-use Rattle.records.proofs.whole_table.Reads as whole-table-reads
-use Rattle.sheets.proofs.sheet.fields_fault.Reads as fields-fault-reads
-
-whole-table-requires : tie.Need-whole-table-requires
-whole-table-requires c κs = search needs
-
-whole-table-requires-2 : tie.Need-whole-table-requires-2
-whole-table-requires-2 c κs = search needs
-
-whole-table-requires-3 : tie.Need-whole-table-requires-3
-whole-table-requires-3 c κs = search needs
-
-fields-fault-requires : tie.Need-fields-fault-requires
-fields-fault-requires c κs = search needs
 
 returns : tie.Need-returns
 unfolding tablesChecks firstOf
@@ -34,9 +18,9 @@ pub tables-fault-spec : {M : Type 1} → statement M
 tables-fault-spec =
     tie.close
     (tie.spec
-    whole-table-requires
-    whole-table-requires-2
-    whole-table-requires-3
-    fields-fault-requires
+    (λ c κs. search needs)
+    (λ c κs. search needs)
+    (λ c κs. search needs)
+    (λ c κs. search needs)
     returns
     returns-2)

@@ -1,0 +1,16 @@
+pub mod SumLaws
+pub mod SameLaws
+pub mod ListMore
+pub mod BlockLaws
+pub mod FileLaws
+pub mod ScanLaws
+pub mod FieldLaws
+pub mod WriteLaws
+pub mod ReadLaws
+pub mod BlockTrip
+pub mod Adds
+pub mod State
+pub mod Trip
+pub mod RoundTrips
+pub mod TablesFit
+pub mod Unique

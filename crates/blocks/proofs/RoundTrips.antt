@@ -1,0 +1,224 @@
+-- The round trips of files: specs/RoundTrips.antt's statements, proved.
+use mathlib.Core.Path.{_≡_, refl, sym, ap, _∙_}
+use mathlib.Core.Bool.{true, _&&_, not}
+use mathlib.Core.List.{List, [], _∷_, _++_, append-assoc, append-nil}
+use Prim.Native.Nat.{ℕ, zero, suc, _+_, _-_, _*_, _/_, _%_, _≤_, _<_}
+use native.Mathlib.Nat.{mul-suc}
+use native.Mathlib.Omega.{arith}
+use lib.Dec.{eqb, eqb·suc-zero}
+use lib.ListN.{length, take, drop, length-drop, take-append-drop}
+use lib.Seq.{take-at, drop-at}
+use borrow.Author.Tests.{eq-eqb, le-leb}
+use Rattle.records.specs.Chunks.{chunks}
+use Rattle.records.specs.Lists.{All}
+use Rattle.records.specs.declared.tables.Kind.{Kind}
+use Rattle.records.specs.declared.tables.Kind.the-variants.{Holdings, Placement, Claims}
+use Rattle.records.proofs.ChunkLaws.{length-chunks}
+use Rattle.records.proofs.OrderLaws.{Pass, clear, unclear, pass-left, pass-right, pass-both}
+use Rattle.blocks.specs.File.{Tables, tables, tableOf, wholeFile, blocksOf, joined, tablesIn, blocksChecks, fileChecks, blockCount, blocksIn, partsOf, numbered, blocksFor, flat, fileOf}
+use Rattle.blocks.specs.Writer.{takenTables, fieldsOf, writeChecks, filled}
+use Rattle.blocks.specs.Reader.{readChecks, leaves}
+use Rattle.blocks.specs.RoundTrips.{Writes, Reads, AllBytes, WrittenReadsBack, ReadWritesBack, CallsReadBack, CallsWriteBack}
+use Rattle.blocks.proofs.BlockLaws.{length-block}
+use Rattle.blocks.proofs.FileLaws.{joinedBack, whole-file}
+use Rattle.blocks.proofs.ListMore.{chunks-short, chunks-whole}
+use Rattle.blocks.proofs.ReadLaws.{Sound, sound, whole-table, read-done}
+use Rattle.blocks.proofs.State.{onto, onto-onto, State, start}
+use Rattle.blocks.proofs.Trip.{read-all, pass-onto, reach}
+use Rattle.blocks.proofs.WriteLaws.{length-file, Taken, taken-is, write-done}
+
+-- ---- blocks joined and cut again
+
+cut-joined : (bs : List (List ℕ)) → All (λ b. length b ≡ 512) bs → chunks 512 (length bs) (flat bs) ≡ bs
+unfolding chunks flat
+cut-joined [] l = refl
+cut-joined (b ∷ bs) l = rw (take-at b (flat bs) 512 (l .0), drop-at b (flat bs) 512 (l .0), cut-joined bs (l .1))
+
+join-cut : (n : ℕ) (f : List ℕ) → length f ≡ 512 * n → flat (chunks 512 n f) ≡ f
+unfolding chunks flat
+join-cut zero [] e = refl
+join-cut zero (x ∷ f) e = absurd (omega arith)
+join-cut (suc n) f e =
+    let d : length (drop 512 f) ≡ 512 * n = simp length-drop (omega (arith, mul-suc 512 n)) in
+    rw (join-cut n (drop 512 f) d) (take-append-drop 512 f)
+
+all-take : {A : Type 0} (P : A → Type 0) (n : ℕ) (xs : List A) → All P xs → All P (take n xs)
+all-take P zero xs a = tt
+all-take P (suc n) [] a = tt
+all-take P (suc n) (x ∷ xs) a = (a .0, all-take P n xs (a .1))
+
+all-drop : {A : Type 0} (P : A → Type 0) (n : ℕ) (xs : List A) → All P xs → All P (drop n xs)
+all-drop P zero xs a = a
+all-drop P (suc n) [] a = tt
+all-drop P (suc n) (x ∷ xs) a = all-drop P n xs (a .1)
+
+all-append : {A : Type 0} (P : A → Type 0) (xs ys : List A) → All P xs → All P ys → All P (xs ++ ys)
+all-append P [] ys a b = b
+all-append P (x ∷ xs) ys a b = (a .0, all-append P xs ys (a .1) b)
+
+chunks-bytes : (size n : ℕ) (xs : List ℕ) → AllBytes xs → All AllBytes (chunks size n xs)
+unfolding chunks
+chunks-bytes size zero xs a = tt
+chunks-bytes size (suc n) xs a = (all-take (λ x. x < 256) size xs a, chunks-bytes size n (drop size xs) (all-drop (λ x. x < 256) size xs a))
+
+-- ---- the writer's blocks
+
+numbered-sized : (kind i n : ℕ) (rs : List (List ℕ)) → All (λ r. length r ≤ 480) rs → All (λ b. length b ≡ 512) (numbered kind i n rs)
+unfolding numbered
+numbered-sized kind i n [] s = tt
+numbered-sized kind i n (r ∷ rs) s = (length-block kind i n r (s .0), numbered-sized kind (i + 1) n rs (s .1))
+
+blocks-sized : (n : ℕ) (t : Tables) → All (λ b. length b ≡ 512) (blocksFor n t)
+unfolding blocksFor
+blocks-sized n t =
+    let s : (kind i : ℕ) (x : List ℕ) → All (λ b. length b ≡ 512) (numbered kind i n (partsOf x)) =
+    λ kind i x. numbered-sized kind i n (partsOf x) (chunks-short 480 (blockCount (length x)) x) in
+    all-append (λ b. length b ≡ 512) (numbered 1 0 n (partsOf (t .holdings))) _ (s 1 0 (t .holdings))
+    (all-append (λ b. length b ≡ 512) (numbered 2 (blockCount (length (t .holdings))) n (partsOf (t .placement))) _ (s 2 (blockCount (length (t .holdings))) (t .placement))
+    (s 3 (blockCount (length (t .holdings)) + blockCount (length (t .placement))) (t .claims)))
+
+-- ---- turned around
+
+length-onto : {A : Type 0} (xs ys : List A) → length (onto xs ys) ≡ length xs + length ys
+unfolding onto
+length-onto [] ys = omega arith
+length-onto (x ∷ xs) ys = length-onto xs (x ∷ ys) ∙ omega arith
+
+twice : {A : Type 0} (xs : List A) → onto (onto xs []) [] ≡ xs
+unfolding onto
+twice xs = onto-onto xs [] [] ∙ append-nil xs
+
+joined-onto : (k : Kind) (bs before : List (List ℕ)) → joinedBack k (onto bs before) ≡ joinedBack k before ++ joined k bs
+unfolding joinedBack joined onto
+joined-onto k [] before = sym (append-nil (joinedBack k before))
+joined-onto k (b ∷ bs) before = joined-onto k bs (b ∷ before) ∙ append-assoc (joinedBack k before) _ (joined k bs)
+
+joined-back : (k : Kind) (bs : List (List ℕ)) → joinedBack k (onto bs []) ≡ joined k bs
+unfolding joinedBack
+joined-back k bs = joined-onto k bs []
+
+-- ---- written, then read
+
+module _ (t : Tables) (w : Writes t) where
+  passed : Pass (writeChecks t)
+  passed = clear (writeChecks t) w
+
+  taken : Taken (length (t .holdings)) (length (t .placement)) (length (t .claims))
+  unfolding writeChecks
+  taken = taken-is (length (t .holdings)) (length (t .placement)) (length (t .claims)) (passed .0)
+
+  blocks-number : length (fileOf t) / 512 ≡ blocksIn t
+  blocks-number = omega (arith, length-file t)
+
+  blocks-back : blocksOf (fileOf t) ≡ blocksFor (blocksIn t) t
+  unfolding fileOf
+  blocks-back =
+      let n = blocksIn t in
+      let s = reach n t taken .state in
+      let len : length (blocksFor n t) ≡ n = rw (s .blocks) (length-onto (reach n t taken .before) [] ∙ omega (arith, s .count)) in
+      rw blocks-number (ap (λ (m : ℕ). chunks 512 m (flat (blocksFor n t))) (sym len) ∙ cut-joined (blocksFor n t) (blocks-sized n t))
+
+  joined-is : (k : Kind) → joined k (blocksOf (fileOf t)) ≡ tableOf k t
+  joined-is k =
+      let r = reach (blocksIn t) t taken in
+      rw (blocks-back, r .state .blocks) (sym (joined-back k (onto (r .before) [])) ∙ ap (joinedBack k) (twice (r .before)) ∙ sym (r .state .joins k))
+
+  tables-back : tablesIn (fileOf t) ≡ t
+  unfolding tablesIn
+  tables-back = rw (joined-is Holdings, joined-is Placement, joined-is Claims)
+
+  whole : wholeFile (length (fileOf t)) ≡ true
+  whole =
+      let v = taken in
+      let l = length-file t in
+      rw (eq-eqb (length (fileOf t) % 512) 0 (omega arith), le-leb 1 (length (fileOf t) / 512) (omega (arith, v .some)), le-leb (length (fileOf t) / 512) 39 (omega (arith, v .holdings .1, v .placement .1, v .claims .1)))
+
+  file-passes : Pass (fileChecks (fileOf t))
+  unfolding fileChecks blocksChecks
+  file-passes =
+      let r = reach (blocksIn t) t taken in
+      (whole, rw (blocks-back, blocks-number, r .state .blocks) (pass-onto (blocksIn t) (r .before) [] (r .passed) tt))
+
+  fields-pass : Pass (fieldsOf (tablesIn (fileOf t)))
+  unfolding writeChecks
+  fields-pass = rw tables-back (passed .1)
+
+  reads : Reads (fileOf t)
+  unfolding readChecks
+  reads = unclear (fileChecks (fileOf t) ++ fieldsOf (tablesIn (fileOf t))) (pass-both (fileChecks (fileOf t)) (fieldsOf (tablesIn (fileOf t))) file-passes fields-pass)
+
+pub written-reads-back : WrittenReadsBack
+written-reads-back t w = (reads t w, tables-back t w)
+
+-- ---- read, then written
+
+some-not : (h p c : ℕ) → 1 ≤ h + p + c → not (eqb h 0 && eqb p 0 && eqb c 0) ≡ true
+some-not zero zero zero h = absurd (omega arith)
+some-not zero zero (suc c) h = rw (eqb·suc-zero c)
+some-not zero (suc p) c h = rw (eqb·suc-zero p)
+some-not (suc h) p c e = rw (eqb·suc-zero h)
+
+module _ (f : List ℕ) (a : AllBytes f) (r : Reads f) where
+  both : Pass (fileChecks f) × Pass (fieldsOf (tablesIn f))
+  unfolding readChecks
+  both =
+      let p = clear (fileChecks f ++ fieldsOf (tablesIn f)) r in
+      (pass-left (fileChecks f) (fieldsOf (tablesIn f)) p, pass-right (fileChecks f) (fieldsOf (tablesIn f)) p)
+
+  fine : Sound f
+  fine = sound f (both .0)
+
+  walked : (u : Tables) × State (length f / 512) (onto (blocksOf f) []) u
+  walked =
+      let n = length f / 512 in
+      let w = whole-file (length f) (fine .whole) in
+      read-all n (blocksOf f) [] (tables [] [] []) (start n) (fine .blocks) (chunks-whole 512 n f (omega arith)) (chunks-bytes 512 n f a)
+
+  same-tables : walked .0 ≡ tablesIn f
+  unfolding tablesIn
+  same-tables =
+      let s = walked .1 in
+      let h : walked .0 .holdings ≡ joined Holdings (blocksOf f) = s .joins Holdings ∙ joined-back Holdings (blocksOf f) in
+      let p : walked .0 .placement ≡ joined Placement (blocksOf f) = s .joins Placement ∙ joined-back Placement (blocksOf f) in
+      let c : walked .0 .claims ≡ joined Claims (blocksOf f) = s .joins Claims ∙ joined-back Claims (blocksOf f) in
+      rw (← h, ← p, ← c)
+
+  file-back : fileOf (tablesIn f) ≡ f
+  unfolding fileOf
+  file-back =
+      let n = length f / 512 in
+      let s = walked .1 in
+      let w = whole-file (length f) (fine .whole) in
+      let count : blocksIn (walked .0) ≡ n = s .count ∙ length-onto (blocksOf f) [] ∙ omega (arith, length-chunks 512 n f) in
+      rw (← same-tables, count, s .blocks, twice (blocksOf f)) (join-cut n f (omega arith))
+
+  taken-back : takenTables (length (tablesIn f .holdings)) (length (tablesIn f .placement)) (length (tablesIn f .claims)) ≡ true
+  unfolding takenTables tablesIn
+  taken-back =
+      let w = whole-file (length f) (fine .whole) in
+      let l = ap length (sym file-back) ∙ length-file (tablesIn f) in
+      rw (whole-table f fine Holdings, whole-table f fine Placement, whole-table f fine Claims)
+      (some-not (length (joined Holdings (blocksOf f))) (length (joined Placement (blocksOf f))) (length (joined Claims (blocksOf f))) (omega (arith, l, w .1)))
+
+  writes : Writes (tablesIn f)
+  unfolding writeChecks
+  writes = unclear (writeChecks (tablesIn f)) (taken-back, both .1)
+
+pub read-writes-back : ReadWritesBack
+read-writes-back f a r = (writes f a r, file-back f a r)
+
+-- ---- of the two calls
+
+pub calls-read-back : CallsReadBack
+unfolding leaves
+calls-read-back t w h p c rh rp rc =
+    let e = tables-back t w in
+    let le : (k : Kind) (m : ℕ) → length (tableOf k t) ≤ m → length (tableOf k (tablesIn (fileOf t))) ≤ m = λ k m q. rw e q in
+    (rw e at (read-done (fileOf t) h p c (reads t w) (le Holdings h rh) (le Placement p rp) (le Claims c rc)), λ kind lent. rw e)
+
+pub calls-write-back : CallsWriteBack
+unfolding filled writeChecks
+calls-write-back f a r room fits =
+    let e = file-back f a r in
+    let p = clear (writeChecks (tablesIn f)) (writes f a r) in
+    (rw e at (write-done (tablesIn f) room (p .0) (unclear (fieldsOf (tablesIn f)) (p .1)) (omega (arith, ap length (sym e) ∙ length-file (tablesIn f)))), λ lent. rw e)

@@ -1,0 +1,58 @@
+-- `blocks::checks::sums_of` meets its contract. The invariant: a and b are the two sums of the bytes passed, and are small enough to fit.
+use mathlib.Core.Path.{_≡_, ap, _∙_}
+use Prim.Native.Nat.{ℕ, _-_, _*_, _%_, _≤_}
+use native.Mathlib.Omega.{arith}
+use borrow.Author.Needs.{needs}
+use lib.ListN.{length, take}
+use lib.Seq.{take-all}
+use Rattle.blocks.specs.Sums.{byteSum, weightedSum, checkA, checkB}
+use Rattle.blocks.proofs.SumLaws.{byteSum-more, weightedSum-more}
+use Rattle.blocks.proofs.checks.sums_of.Statement.{statement}
+use Rattle.blocks.proofs.checks.sums_of.Tie as tie
+
+abbrev Inv-loop : tie.InvT-loop
+Inv-loop s a₀ b₀ i₀ a b i =
+    (i ≤ length s) × (a ≡ byteSum (take i s)) × (b ≡ weightedSum (take i s)) × (a ≤ 255 * i) × (b ≤ 129540 * i)
+
+abbrev μ-loop : tie.MeasureT-loop
+μ-loop s a₀ b₀ i₀ a b i = length s - i
+
+loop-holds : tie.Need-loop-holds Inv-loop μ-loop
+unfolding byteSum weightedSum
+loop-holds c = search needs
+
+cast-a : tie.Need-cast-a Inv-loop μ-loop
+cast-a c = omega (arith, c .shared-slice-known .given (c .before .before .loop .i))
+
+add-a : tie.Need-add-a Inv-loop μ-loop
+add-a c = omega (arith, c .shared-slice-known .given (c .before .before .loop .i))
+
+add-b : tie.Need-add-b Inv-loop μ-loop
+add-b c = omega (arith, c .shared-slice-known .given (c .before .before .loop .i))
+
+loop-again : tie.Need-loop-again Inv-loop μ-loop
+loop-again c = omega (arith, c .shared-slice-known .given (c .before .before .loop .i), byteSum-more (c .before .before .before .args .s .now) (c .before .before .loop .i) (c .before .loop-test .taken), weightedSum-more (c .before .before .before .args .s .now) (c .before .before .loop .i) (c .before .loop-test .taken))
+
+returns : tie.Need-returns Inv-loop μ-loop
+unfolding checkA checkB
+returns c =
+    let whole = take-all (c .before .loop .i) (c .before .before .args .s .now) (c .loop-test .left) in
+    (ap (λ (n : ℕ). n % 65536) (c .before .loop .inv .1 ∙ ap byteSum whole), ap (λ (n : ℕ). n % 65536) (c .before .loop .inv .2 ∙ ap weightedSum whole))
+
+pub sums-of-spec : {M : Type 1} → statement M
+sums-of-spec =
+    tie.close
+    (tie.spec
+    Inv-loop
+    μ-loop
+    loop-holds
+    (λ c. search needs)
+    cast-a
+    add-a
+    add-b
+    (λ c. search needs)
+    (λ c. search needs)
+    loop-again
+    (λ c. search needs)
+    (λ c. search needs)
+    returns)

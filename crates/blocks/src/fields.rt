@@ -1,0 +1,90 @@
+// Refusal 4, judged on the records where they stand in the file, before anything is copied.
+ghost use mathlib.Core.Path.{_≡_};
+ghost use Prim.Native.Nat.{_+_, _*_, _/_, _%_, _≤_};
+ghost use lib.ListN.{length};
+ghost use Rattle.records.specs.Lists.{All};
+ghost use Rattle.records.specs.Chunks.{recordsOf};
+ghost use Rattle.records.specs.Order.{firstOf};
+ghost use Rattle.records.specs.Tables.{goodRecord, fieldChecks};
+ghost use Rattle.blocks.specs.File.{blocksOf, countAs, joined, tablesIn};
+ghost use Rattle.blocks.specs.Writer.{fieldsOf};
+ghost use Rattle.blocks.specs.Steps.{Sized, goodFront};
+use crate::form::BLOCK_BYTES;
+use crate::form::RECORD_BYTES;
+use crate::form::RECORDS_AT;
+use crate::form::kind_number;
+use crate::scanner::counted_as;
+use records::Fault;
+use records::Kind;
+use records::Refusal;
+use records::good_record;
+
+// How many bytes of records of a kind a block has.
+pub(crate) fn bytes_as(kind: Kind, block: &[u8]) -> usize
+    requires { ⌜ Sized (now block) ⌝ }
+    ensures { λ r. ⌜ (r ≡ 32 * countAs kind (now (block .entry))) × (r ≤ 480) ⌝ }
+{
+    RECORD_BYTES * counted_as(kind_number(kind), block[4], block[5])
+}
+
+// How many records stand before the first that has a field out of range: all, where none has.
+fn good_front(kind: Kind, records: &[u8]) -> usize
+    ensures { λ r. ⌜ r ≡ goodFront (goodRecord kind) (recordsOf (now (records .entry))) ⌝ }
+{
+    let n = records.len() / RECORD_BYTES;
+    let mut i: usize = 0;
+    while i < n {
+        let at = RECORD_BYTES * i;
+        let end = at + RECORD_BYTES;
+        if good_record(kind, &records[at..end]) {
+            i += 1;
+        } else {
+            return i;
+        }
+    }
+    i
+}
+
+// The first record of a kind with a field out of range, counted over the kind's blocks.
+fn kind_fault(file: &[u8], kind: Kind) -> Fault
+    requires { ⌜ (length (now file) ≤ 19968) × (length (now file) % 512 ≡ 0) ⌝ }
+    requires { ⌜ All Sized (blocksOf (now file)) ⌝ }
+    ensures { λ r. ⌜ r ≡ firstOf (fieldChecks kind (joined kind (blocksOf (now (file .entry))))) ⌝ }
+{
+    let n = file.len() / BLOCK_BYTES;
+    let mut first: usize = 0;
+    let mut i: usize = 0;
+    while i < n {
+        let a = BLOCK_BYTES * i;
+        let e = a + BLOCK_BYTES;
+        let size = bytes_as(kind, &file[a..e]);
+        let from = a + RECORDS_AT;
+        let to = from + size;
+        let good = good_front(kind, &file[from..to]);
+        if good < size / RECORD_BYTES {
+            return Fault::Is(Refusal {
+                number: 4,
+                table: kind_number(kind),
+                place: first + good,
+            });
+        }
+        first += size / RECORD_BYTES;
+        i += 1;
+    }
+    Fault::Nothing
+}
+
+// Refusal 4, by table and then by record, of a file whose blocks have no fault.
+pub(crate) fn file_fields_fault(file: &[u8]) -> Fault
+    requires { ⌜ (length (now file) ≤ 19968) × (length (now file) % 512 ≡ 0) ⌝ }
+    requires { ⌜ All Sized (blocksOf (now file)) ⌝ }
+    ensures { λ r. ⌜ r ≡ firstOf (fieldsOf (tablesIn (now (file .entry)))) ⌝ }
+{
+    match kind_fault(file, Kind::Holdings) {
+        Fault::Is(refusal) => Fault::Is(refusal),
+        Fault::Nothing => match kind_fault(file, Kind::Placement) {
+            Fault::Is(refusal) => Fault::Is(refusal),
+            Fault::Nothing => kind_fault(file, Kind::Claims),
+        },
+    }
+}
