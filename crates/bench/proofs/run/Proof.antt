@@ -1,0 +1,29 @@
+use Prim.Native.Nat.{_-_}
+use mathlib.Core.Path.{_≡_}
+use lib.ListN.{length}
+use borrow.Author.Needs.{needs}
+use Rattle.bench.proofs.run.Statement.{statement}
+use Rattle.bench.proofs.run.Tie as tie
+
+abbrev Inv-loop : tie.InvT-loop
+Inv-loop script memory₀ sizes₀ at₀ memory sizes at = (length memory ≡ length memory₀) × (length sizes ≡ length sizes₀)
+
+abbrev μ-loop : tie.MeasureT-loop
+μ-loop script memory₀ sizes₀ at₀ memory sizes at = length script - at
+
+pub run-spec : {M : Type 1} → statement M
+run-spec =
+    tie.close
+    (tie.spec
+    Inv-loop
+    μ-loop
+    (λ c. search needs)
+    (λ c κs. search needs)
+    (λ c κs. search needs)
+    (λ c κs. search needs)
+    (λ c. search needs)
+    (λ c. search needs)
+    (λ c. search needs)
+    (λ c. search needs)
+    (λ c. search needs)
+    (λ c. search needs))

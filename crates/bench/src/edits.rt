@@ -1,0 +1,161 @@
+// The commands that change the memory and print nothing.
+ghost use Prim.Native.Nat.{_≤_};
+use crate::memory::add_number;
+use crate::memory::base;
+use crate::memory::blank;
+use crate::memory::low;
+use crate::memory::repeat;
+use crate::memory::resize;
+use crate::memory::room;
+use crate::memory::set_byte;
+use crate::memory::size;
+use crate::memory::wide;
+use crate::text::byte_at;
+use crate::text::least;
+use crate::text::letter;
+use crate::text::number;
+use crate::text::says;
+
+// The first five numbers of a line, as fields of the leg record at `at`: group, side, type, style,
+// market.
+fn put_terms(memory: &mut [u8], at: usize, line: &[u8])
+    requires { ⌜ at ≤ 65536 ⌝ }
+{
+    add_number(memory, at, 2, number(line, 1));
+    add_number(memory, at + 2, 1, number(line, 2));
+    add_number(memory, at + 3, 1, number(line, 3));
+    add_number(memory, at + 4, 1, number(line, 4));
+    add_number(memory, at + 5, 1, number(line, 5));
+}
+
+// The last five: unit size, underlying, strike, expiry, contracts.
+fn put_series(memory: &mut [u8], at: usize, line: &[u8])
+    requires { ⌜ at ≤ 65536 ⌝ }
+{
+    add_number(memory, at + 6, 2, number(line, 6));
+    add_number(memory, at + 8, 4, number(line, 7));
+    add_number(memory, at + 12, 4, number(line, 8));
+    add_number(memory, at + 16, 4, number(line, 9));
+    add_number(memory, at + 20, 4, number(line, 10));
+}
+
+// Group and margin of a line, as the fields of the claim record at `at`.
+fn put_claim(memory: &mut [u8], at: usize, line: &[u8])
+    requires { ⌜ at ≤ 65536 ⌝ }
+{
+    add_number(memory, at, 2, number(line, 1));
+    add_number(memory, at + 8, 8, number(line, 2));
+}
+
+// Appends the record of a line to the table that the line's letter names, if there is room.
+pub(crate) fn append(line: &[u8], memory: &mut [u8], sizes: &mut [usize]) {
+    let name = letter(line, 0);
+    let n = size(sizes, name);
+    if room(name) < n + 32 {
+        return;
+    }
+    let at = base(name) + n;
+    resize(memory, sizes, name, n + 32);
+    if name == b'c' {
+        put_claim(memory, at, line);
+        return;
+    }
+    put_terms(memory, at, line);
+    put_series(memory, at, line);
+}
+
+// Repeats the last record until there are so many.
+fn fill(line: &[u8], memory: &mut [u8], sizes: &mut [usize]) {
+    let name = letter(line, 1);
+    let n = least(number(line, 2), 512);
+    let strike = number(line, 3);
+    let group = number(line, 4);
+    let mut i = size(sizes, name) / 32;
+    while i < n {
+        repeat(memory, sizes, name, strike, group);
+        i += 1;
+    }
+}
+
+// Adds to one byte, modulo 256.
+fn bump(memory: &mut [u8], name: u8, at: usize, more: usize) {
+    if at < room(name) {
+        add_number(memory, base(name) + at, 1, more);
+    }
+}
+
+fn clear(memory: &mut [u8], sizes: &mut [usize]) {
+    resize(memory, sizes, b'h', 0);
+    resize(memory, sizes, b'p', 0);
+    resize(memory, sizes, b'c', 0);
+    resize(memory, sizes, b'f', 0);
+}
+
+// The two checks of a block, as a file has them.
+struct Checks {
+    a: usize,
+    b: usize,
+}
+
+// A is the sum of the bytes 0 to 507, and B the sum of (508 - i) times byte i: each byte is added to A,
+// and A to B.
+fn block_sums(memory: &[u8], at: usize) -> Checks
+    requires { ⌜ at ≤ 65536 ⌝ }
+{
+    let mut a: usize = 0;
+    let mut b: usize = 0;
+    let mut i: usize = 0;
+    while i < 508 {
+        a = (a + wide(byte_at(memory, at + i))) % 65536;
+        b = (b + a) % 65536;
+        i += 1;
+    }
+    Checks { a, b }
+}
+
+// Puts the two checks of a block of the file right.
+fn seal(memory: &mut [u8], block: usize) {
+    let at = base(b'f') + 512 * least(block, 47);
+    let checks = block_sums(memory, at);
+    blank(memory, at + 508, at + 512, 0);
+    add_number(memory, at + 508, 2, checks.a);
+    add_number(memory, at + 510, 2, checks.b);
+}
+
+// Whether the line is one of these commands; if so, it is done.
+pub(crate) fn edit(line: &[u8], memory: &mut [u8], sizes: &mut [usize]) -> bool {
+    if says(line, b"h") | says(line, b"p") | says(line, b"c") {
+        append(line, memory, sizes);
+        return true;
+    }
+    if says(line, b"clear") {
+        clear(memory, sizes);
+        return true;
+    }
+    if says(line, b"fill") {
+        fill(line, memory, sizes);
+        return true;
+    }
+    if says(line, b"byte") {
+        set_byte(
+            memory,
+            letter(line, 1),
+            number(line, 2),
+            low(number(line, 3)),
+        );
+        return true;
+    }
+    if says(line, b"bump") {
+        bump(memory, letter(line, 1), number(line, 2), number(line, 3));
+        return true;
+    }
+    if says(line, b"cut") {
+        resize(memory, sizes, letter(line, 1), number(line, 2));
+        return true;
+    }
+    if says(line, b"seal") {
+        seal(memory, number(line, 1));
+        return true;
+    }
+    false
+}

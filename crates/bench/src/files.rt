@@ -1,0 +1,138 @@
+// The calls on files: write, file, read. Each prints its answer.
+use crate::calls::print_verdict;
+use crate::memory::base;
+use crate::memory::copy_to;
+use crate::memory::resize;
+use crate::memory::table;
+use crate::print::print;
+use crate::print::print_kept;
+use crate::print::print_number;
+use crate::print::print_refusal;
+use crate::text::byte_at;
+use crate::text::least;
+use crate::text::number;
+use crate::text::part;
+use blocks::Counts;
+use blocks::Reading;
+use blocks::Writing;
+
+// What each byte of a lent buffer holds before a call.
+const NO_BYTE: u8 = 170;
+
+fn kept(s: &[u8], from: usize) -> bool {
+    let mut i = from;
+    while i < s.len() {
+        if s[i] != NO_BYTE {
+            return false;
+        }
+        i += 1;
+    }
+    true
+}
+
+// Writes the three tables into `out`, and what was written into the file of the memory.
+fn print_written(memory: &mut [u8], sizes: &mut [usize], room: usize, out: &mut [u8]) {
+    let end = least(room, out.len());
+    match blocks::write_file(
+        table(memory, sizes, b'h'),
+        table(memory, sizes, b'p'),
+        table(memory, sizes, b'c'),
+        &mut out[..end],
+    ) {
+        Writing::Wrote(n) => {
+            print_number(n);
+            print_kept(kept(out, n));
+            resize(memory, sizes, b'f', n);
+            copy_to(memory, base(b'f'), part(out, 0, n));
+        }
+        Writing::Refused(refusal) => {
+            print_refusal(refusal);
+            print_kept(kept(out, 0));
+            resize(memory, sizes, b'f', 0);
+        }
+    }
+}
+
+// Writes the file in a buffer of `room` bytes (at most 20,480).
+pub(crate) fn write(memory: &mut [u8], sizes: &mut [usize], room: usize) {
+    let mut out = [NO_BYTE; 20480];
+    print_written(memory, sizes, room, &mut out);
+}
+
+pub(crate) fn file(memory: &[u8], sizes: &[usize]) {
+    print_verdict(sheets::check_file(table(memory, sizes, b'f')));
+}
+
+// Whether the first n records that were read are the whole of a table.
+fn same(read: &[u8], n: usize, table: &[u8]) -> bool {
+    if table.len() / 32 != n {
+        return false;
+    }
+    let mut i: usize = 0;
+    while i < table.len() {
+        if table[i] != byte_at(read, i) {
+            return false;
+        }
+        i += 1;
+    }
+    true
+}
+
+// The three tables that were read, after a reading that succeeded.
+fn print_tables(memory: &[u8], sizes: &[usize], counts: Counts, h: &[u8], p: &[u8], c: &[u8]) {
+    print_number(counts.holdings);
+    print_number(counts.placement);
+    print_number(counts.claims);
+    if same(h, counts.holdings, table(memory, sizes, b'h'))
+        & same(p, counts.placement, table(memory, sizes, b'p'))
+        & same(c, counts.claims, table(memory, sizes, b'c'))
+    {
+        print(b" same");
+    } else {
+        print(b" DIFFERENT");
+    }
+    print_kept(
+        kept_after(h, counts.holdings)
+            & kept_after(p, counts.placement)
+            & kept_after(c, counts.claims),
+    );
+}
+
+// Whether the bytes past n records stay.
+fn kept_after(s: &[u8], n: usize) -> bool {
+    kept(s, 32 * least(n, 1000))
+}
+
+fn print_reading(
+    line: &[u8],
+    memory: &[u8],
+    sizes: &[usize],
+    h: &mut [u8],
+    p: &mut [u8],
+    c: &mut [u8],
+) {
+    let room_h = least(number(line, 1), h.len());
+    let room_p = least(number(line, 2), p.len());
+    let room_c = least(number(line, 3), c.len());
+    match blocks::read_file(
+        table(memory, sizes, b'f'),
+        &mut h[..room_h],
+        &mut p[..room_p],
+        &mut c[..room_c],
+    ) {
+        Reading::Read(counts) => print_tables(memory, sizes, counts, h, p, c),
+        Reading::Refused(refusal) => {
+            print_refusal(refusal);
+            print_kept(kept(h, 0) & kept(p, 0) & kept(c, 0));
+        }
+    }
+}
+
+// Reads the file into tables of so many bytes (at most 8,320, 8,320 and 1,088), and compares them
+// with those of the memory.
+pub(crate) fn read(line: &[u8], memory: &[u8], sizes: &[usize]) {
+    let mut h = [NO_BYTE; 8320];
+    let mut p = [NO_BYTE; 8320];
+    let mut c = [NO_BYTE; 1088];
+    print_reading(line, memory, sizes, &mut h, &mut p, &mut c);
+}

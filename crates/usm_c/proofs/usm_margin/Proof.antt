@@ -1,0 +1,15 @@
+use Rattle.usm_c.proofs.Amounts.{margin-mills}
+use mathlib.Core.Path.{ap, _∙_}
+use Rattle.usm_c.specs.Answers.{dueWords}
+use borrow.Author.Needs.{needs}
+use Rattle.usm_c.proofs.usm_margin.Statement.{statement}
+use Rattle.usm_c.proofs.usm_margin.Tie as tie
+
+due-words-requires : tie.Need-due-words-requires
+due-words-requires c κs = rw (c .margin .ensures) (margin-mills _ _)
+
+returns : tie.Need-returns
+returns c = c .due-words .ensures ∙ ap dueWords (c .before .margin .ensures)
+
+pub usm-margin-spec : {M : Type 1} → statement M
+usm-margin-spec = tie.close (tie.spec (λ c κs. search needs) due-words-requires returns)

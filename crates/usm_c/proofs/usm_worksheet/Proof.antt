@@ -1,0 +1,10 @@
+use borrow.Author.Needs.{needs}
+use Rattle.usm_c.proofs.usm_worksheet.Statement.{statement}
+use Rattle.usm_c.proofs.usm_worksheet.Tie as tie
+
+returns : tie.Need-returns
+returns c = let w = c .before .before .before .before .worksheet .ensures in rw (← w .0) (c .listed-words .ensures, w .1)
+
+pub usm-worksheet-spec : {M : Type 1} → statement M
+usm-worksheet-spec =
+    tie.close (tie.spec (λ c κs. search needs) (λ c κs. search needs) (λ c. search needs) (λ c. search needs) returns)

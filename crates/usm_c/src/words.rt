@@ -1,0 +1,100 @@
+// The four words of each kind of answer.
+ghost use mathlib.Core.Path.{_≡_};
+ghost use Rattle.usm_c.specs.Answers.{doneWords, refusedWords, countedWords, dueWords, listedWords, verdictWords, readingWords, writingWords, tableWords, DueMills, VerdictMills};
+use blocks::Reading;
+use blocks::Writing;
+use records::Counted;
+use records::Kind;
+use records::Refusal;
+use sheets::Verdict;
+use spreads::Due;
+use spreads::Listed;
+
+// Success, and what it says.
+fn done(a: u64, b: u64, c: u64) -> [u64; 4]
+    ensures { λ r. ⌜ r ≡ doneWords a b c ⌝ }
+{
+    [0, a, b, c]
+}
+
+fn refused(r: Refusal) -> [u64; 4]
+    ensures { λ w. ⌜ w ≡ refusedWords r ⌝ }
+{
+    [r.number as u64, r.table as u64, r.place as u64, 0]
+}
+
+fn counted_words(counted: Counted) -> [u64; 4]
+    ensures { λ r. ⌜ r ≡ countedWords counted ⌝ }
+{
+    match counted {
+        Counted::Records(n) => done(n as u64, 0, 0),
+        Counted::Refused(refusal) => refused(refusal),
+    }
+}
+
+pub(crate) fn due_words(due: Due) -> [u64; 4]
+    requires { ⌜ DueMills due ⌝ }
+    ensures { λ r. ⌜ r ≡ dueWords due ⌝ }
+{
+    match due {
+        Due::Mills(mills) => done(mills as u64, 0, 0),
+        Due::Refused(refusal) => refused(refusal),
+    }
+}
+
+pub(crate) fn listed_words(listed: Listed) -> [u64; 4]
+    ensures { λ r. ⌜ r ≡ listedWords listed ⌝ }
+{
+    match listed {
+        Listed::Entries(n) => done(n as u64, 0, 0),
+        Listed::Refused(refusal) => refused(refusal),
+    }
+}
+
+pub(crate) fn verdict_words(verdict: Verdict) -> [u64; 4]
+    requires { ⌜ VerdictMills verdict ⌝ }
+    ensures { λ r. ⌜ r ≡ verdictWords verdict ⌝ }
+{
+    match verdict {
+        Verdict::Accepted(groups, total) => done(groups as u64, total as u64, 0),
+        Verdict::Refused(refusal) => refused(refusal),
+    }
+}
+
+pub(crate) fn reading_words(reading: Reading) -> [u64; 4]
+    ensures { λ r. ⌜ r ≡ readingWords reading ⌝ }
+{
+    match reading {
+        Reading::Read(counts) => done(
+            counts.holdings as u64,
+            counts.placement as u64,
+            counts.claims as u64,
+        ),
+        Reading::Refused(refusal) => refused(refusal),
+    }
+}
+
+pub(crate) fn writing_words(writing: Writing) -> [u64; 4]
+    ensures { λ r. ⌜ r ≡ writingWords writing ⌝ }
+{
+    match writing {
+        Writing::Wrote(n) => done(n as u64, 0, 0),
+        Writing::Refused(refusal) => refused(refusal),
+    }
+}
+
+// Of the table with this number.
+pub(crate) fn table_words(kind: u64, table: &[u8]) -> [u64; 4]
+    ensures { λ r. ⌜ r ≡ tableWords kind (now (table .entry)) ⌝ }
+{
+    match kind {
+        1 => counted_words(records::check_table(Kind::Holdings, table)),
+        2 => counted_words(records::check_table(Kind::Placement, table)),
+        3 => counted_words(records::check_table(Kind::Claims, table)),
+        _ => refused(Refusal {
+            number: 1,
+            table: 0,
+            place: 0,
+        }),
+    }
+}
