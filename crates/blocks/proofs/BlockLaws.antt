@@ -12,6 +12,7 @@ use Rattle.records.specs.Bytes.{leAt}
 use Rattle.records.specs.Dates.{within}
 use Rattle.records.specs.Written.{putAt}
 use Rattle.records.proofs.PutLaws.{put-after}
+use Rattle.records.proofs.TableLaws.{within-true}
 use Rattle.blocks.specs.Sums.{checkA, checkB}
 use Rattle.blocks.specs.Block.{zeroIn, mark, kindOf, countOf, numberOf, blocksSaid, headFits, unusedZero, tailFits, formed, zeros, le16, headOf, tailOf, bodyOf, sealed, blockOf}
 use Rattle.blocks.proofs.SameLaws.{same-true}
@@ -22,11 +23,6 @@ use Rattle.blocks.proofs.SameLaws.{same-true}
 pub byte-is : (b : List ℕ) (at : ℕ) → leAt b at 1 ≡ getD b at 0
 unfolding leAt
 byte-is b at = omega arith
-
-within-true : (low high x : ℕ) → within low high x ≡ true → (low ≤ x) × (x ≤ high)
-within-true low high x e =
-    let p = and-eq-true-iff (leb low x) (leb x high) .0 e in
-    (leb-true low x (p .0), leb-true x high (p .1))
 
 -- what bytes 0 to 15 are where they fit
 pub record Head (i n : ℕ) (b : List ℕ) : Type 0 where

@@ -10,6 +10,8 @@ use Rattle.records.specs.Chunks.{chunks, chunkAt, chunksFrom, recordsOf,
 use Rattle.records.specs.Legs.{legOf}
 use Rattle.records.specs.Claims.{claimOf}
 use Rattle.records.specs.Tables.{legsOf, legsFrom, claimsOf, claimsFrom}
+use Rattle.records.specs.declared.legs.Leg.{Leg}
+use Rattle.records.specs.declared.claims.Claim.{Claim}
 
 pub chunks-all : (size n : ℕ) (xs : List ℕ) → chunksFrom size n 0 xs ≡ chunks size n xs
 unfolding chunksFrom
@@ -69,3 +71,13 @@ module _ (xs : List ℕ) where
   pub claims-none : (i : ℕ) → length xs / 32 ≤ i → claimsFrom xs i ≡ []
   unfolding claimsFrom
   claims-none i h = rw (chunks-none 32 (length xs / 32) i xs h)
+
+  -- record i as code reads it, from 32 * i to 32 * i + 32, and those after it
+  abbrev partAt : ℕ → List ℕ
+  partAt i = take (32 * i + 32 - 32 * i) (drop (32 * i) xs)
+
+  pub leg-next : (i : ℕ) (l : Leg) → i < length xs / 32 → l ≡ legOf (partAt i) → legsFrom xs i ≡ l ∷ legsFrom xs (i + 1)
+  leg-next i l h e = rw (e, part-is 32 i xs) (legs-step i h)
+
+  pub claim-next : (i : ℕ) (k : Claim) → i < length xs / 32 → k ≡ claimOf (partAt i) → claimsFrom xs i ≡ k ∷ claimsFrom xs (i + 1)
+  claim-next i k h e = rw (e, part-is 32 i xs) (claims-step i h)

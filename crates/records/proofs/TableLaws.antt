@@ -39,7 +39,7 @@ pub record Ranges (top : ℕ) (l : Leg) : Type 0 where
   pub expiry : (20000101 ≤ l .expiry) × (l .expiry ≤ 20991231)
   pub contracts : (1 ≤ l .contracts .0) × (l .contracts .0 ≤ 100000)
 
-within-true : (low high x : ℕ) → within low high x ≡ true → (low ≤ x) × (x ≤ high)
+pub within-true : (low high x : ℕ) → within low high x ≡ true → (low ≤ x) × (x ≤ high)
 within-true low high x e =
     let p = and-eq-true-iff (leb low x) (leb x high) .0 e in
     (leb-true low x (p .0), leb-true x high (p .1))

@@ -14,14 +14,13 @@ use Rattle.records.specs.Tables.{fieldChecks, claimsOf, claimsFrom}
 use Rattle.records.specs.declared.claims.Claim.{Claim}
 use Rattle.records.specs.declared.refusals.Fault.the-variants.{Nothing, Is}
 use Rattle.records.specs.declared.tables.Kind.the-variants.{Claims}
-use Rattle.records.proofs.ChunkLaws.{getD-chunks, length-chunks, part-is, claims-none}
+use Rattle.records.proofs.ChunkLaws.{getD-chunks, length-chunks, part-is, claims-none, claim-next}
 use Rattle.records.proofs.ListLaws.{sum-step, sum-over}
 use Rattle.records.proofs.TableLaws.{fields-good, claim-ranges}
 use Rattle.sheets.specs.Sheets.{claimFor, totalOf}
 use Rattle.sheets.specs.Verdicts.{bits, askListed}
 use borrow.Author.Tests.{eq-eqb, ne-eqb}
 use lib.IntN.{ℤ, pos}
-use Rattle.sheets.proofs.SearchLaws.{claim-next}
 
 getD-map : {A B : Type 0} (f : A → B) (l : List A) (i : ℕ) (d : A) (e : B) → i < length l → getD (map f l) i e ≡ f (getD l i d)
 getD-map f [] i d e h = absurd (not-suc-le-zero h)
@@ -53,7 +52,7 @@ module _ (xs : List ℕ) (k : ℕ) (h : k < length xs / 32) (c : Claim) (e : c �
 
   pub total-step : totalOf (claimsFrom xs k) ≡ c .margin + totalOf (claimsFrom xs (k + 1))
   unfolding totalOf
-  total-step = sum-step _ c (claimsFrom xs k) (claimsFrom xs (k + 1)) (claim-next xs k c e h)
+  total-step = sum-step _ c (claimsFrom xs k) (claimsFrom xs (k + 1)) (claim-next xs k c h e)
 
 pub total-over : (xs : List ℕ) (k : ℕ) → length xs / 32 ≤ k → totalOf (claimsFrom xs k) ≡ 0
 unfolding totalOf

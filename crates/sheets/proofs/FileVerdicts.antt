@@ -1,10 +1,9 @@
 -- The verdict on a file, by the reader's answer for tables that have room for every sheet.
 use Prim.Native.Nat.{ℕ, _+_, _*_, _≤_}
 use mathlib.Core.Path.{_≡_, refl, sym, ap, _∙_}
-use mathlib.Core.List.{List, [], _∷_, _++_}
+use mathlib.Core.List.{List}
 use native.Mathlib.Omega.{arith}
-use lib.ListN.{length, take, drop}
-use lib.Seq.{take-at}
+use lib.ListN.{length, take}
 use Rattle.records.specs.Order.{firstOf}
 use Rattle.records.specs.Written.{putAt}
 use Rattle.records.specs.declared.refusals.Refusal.{Refusal}
@@ -14,11 +13,11 @@ use Rattle.records.specs.declared.tables.Kind.the-variants.{Holdings, Placement
 use Rattle.records.proofs.PutLaws.{length-putAt}
 use Rattle.blocks.specs.File.{tablesIn}
 use Rattle.blocks.specs.Reader.{readChecks, countsOf, reading, readOf, leaves}
-use Rattle.blocks.specs.Steps.{judged}
 use Rattle.blocks.specs.declared.reader.Counts.{Counts}
 use Rattle.blocks.specs.declared.reader.Reading.{Reading}
 use Rattle.blocks.specs.declared.reader.Reading.the-variants.{Read, Refused as Refused-reading}
-use Rattle.blocks.proofs.ReadLaws.{Bytes, read-bytes, read-refused, read-done}
+use Rattle.blocks.proofs.ReadLaws.{Bytes, read-bytes}
+use Rattle.blocks.proofs.TablesFit.{read-roomy, put-front}
 use Rattle.sheets.specs.Verdicts.{verdictOf, afterReading, fileVerdict}
 use Rattle.sheets.specs.declared.sheet.Verdict.{Verdict}
 use Rattle.sheets.specs.declared.sheet.Verdict.the-variants.{Refused}
@@ -31,22 +30,10 @@ reading-read : (f : Fault) (n m : Counts) → reading f n ≡ Read m → (f ≡ 
 reading-read Nothing n m e = (refl, (cc))
 reading-read (Is q) n m e = let z : _≡_ {A = ℕ} 0 1 = cc in absurd (omega arith)
 
--- the records that were put from byte 0 on, taken out again
-kept : (d s : List ℕ) (k : ℕ) → k ≡ length s → take k (putAt d 0 s) ≡ s
-unfolding putAt
-kept d s k e = take-at s (drop (0 + length s) d) k (sym e)
-
 module _ (file : List ℕ) where
   -- tables for 256, 256 and 32 records have room for every sheet
   read-whole : readOf file 8192 8192 1024 ≡ reading (firstOf (readChecks file)) (countsOf (tablesIn file))
-  unfolding judged
-  read-whole = go (firstOf (readChecks file)) refl
-    where
-      go : (f : Fault) → firstOf (readChecks file) ≡ f → readOf file 8192 8192 1024 ≡ reading f (countsOf (tablesIn file))
-      go (Is r) e = read-refused file 8192 8192 1024 r (rw e refl)
-      go Nothing e =
-          let b = read-bytes file (countsOf (tablesIn file)) e refl in
-          read-done file 8192 8192 1024 e (omega (arith, b .holdings)) (omega (arith, b .placement)) (omega (arith, b .claims))
+  read-whole = read-roomy file 8192 8192 1024 (omega arith) (omega arith) (omega arith)
 
   pub file-refused : (r : Refusal) → readOf file 8192 8192 1024 ≡ Refused-reading r → Refused r ≡ fileVerdict file
   unfolding fileVerdict
@@ -64,14 +51,18 @@ module _ (file : List ℕ) where
       pub file-read : verdictOf (take (32 * n .holdings) h) (take (32 * n .placement) p) (take (32 * n .claims) c) ≡ fileVerdict file
       unfolding fileVerdict leaves
       file-read =
+          let b = bytes in
           rw (
             passed,
             e₁,
             e₂,
             e₃,
-            kept d₁ (tablesIn file .holdings) (32 * n .holdings) (bytes .holdings .0),
-            kept d₂ (tablesIn file .placement) (32 * n .placement) (bytes .placement .0),
-            kept d₃ (tablesIn file .claims) (32 * n .claims) (bytes .claims .0),
+            b .holdings .0,
+            b .placement .0,
+            b .claims .0,
+            put-front d₁ (tablesIn file .holdings),
+            put-front d₂ (tablesIn file .placement),
+            put-front d₃ (tablesIn file .claims),
           ) refl
 
       pub file-room : length d₁ ≡ 8192 → length d₂ ≡ 8192 → length d₃ ≡ 1024

@@ -4,19 +4,19 @@ use mathlib.Core.Bool.{Bool, true, false, cond}
 use mathlib.Core.List.{List, [], _∷_}
 use Prim.Native.Nat.{ℕ, zero, suc, _*_, _-_, _≤_, _<_}
 use native.Mathlib.Omega.{arith}
-use lib.Dec.{eqb, leb, ltb}
+use lib.Dec.{leb, ltb}
 use lib.IntN.{pos, negsuc, subℕ, natAbs, _-ℤ_}
 use lib.ListN.{length}
 use borrow.Author.Tests.{ltb-true, ltb-false}
 use Rattle.records.specs.Lists.{only, sum, All, total}
 use Rattle.records.specs.declared.legs.Leg.{Leg}
 use Rattle.records.specs.declared.claims.Claim.{Claim}
-use Rattle.records.proofs.ListLaws.{all-keep, length-keep, every, sum-bound}
+use Rattle.records.proofs.ListLaws.{every, sum-bound}
 use Rattle.records.proofs.TableLaws.{Ranges}
 use Rattle.spreads.specs.Prices.{longAt, shortAt, at, net}
 use Rattle.spreads.specs.Strikes.{marginOf}
 use Rattle.spreads.specs.Spreads.{groupOf}
-use Rattle.spreads.proofs.Bounds.{only-less, sides-small, margin-bound}
+use Rattle.spreads.proofs.Bounds.{only-less, sides-small, margin-bound, legs-ranges, legs-few, legs-margin}
 use Rattle.sheets.specs.Sheets.{claimFor, totalOf, Accepted}
 use Rattle.sheets.proofs.Groups.{by-group-upto, total-le, total-ext, total-claims}
 
@@ -44,17 +44,9 @@ sum-fixed b [] = omega arith
 sum-fixed b (x ∷ xs) = omega (arith, sum-fixed b xs)
 
 module _ (p : List Leg) (ranges : All (Ranges 32) p) (few : length p ≤ 256) where
-  group-ranges : (g : ℕ) → All (Ranges 32) (groupOf g p)
-  unfolding groupOf
-  group-ranges g = all-keep (Ranges 32) (λ l. eqb (l .group) g) p ranges
-
-  group-few : (g : ℕ) → length (groupOf g p) ≤ 256
-  unfolding groupOf
-  group-few g = omega (arith, length-keep (λ l. eqb (l .group) g) p)
-
   -- no part of a net
   pub parts-limit : (g k : ℕ) → k < 100000000 → (longAt 1 (at k) (groupOf g p) ≤ limit) × (shortAt 1 (at k) (groupOf g p) ≤ limit)
-  parts-limit g k h = sides-small k (groupOf g p) (group-ranges g) h (group-few g)
+  parts-limit g k h = sides-small k (groupOf g p) (legs-ranges p ranges few g) h (legs-few p ranges few g)
 
   -- no net
   pub net-limit : (g k : ℕ) → k < 100000000 → natAbs (net (groupOf g p) k) ≤ limit
@@ -63,7 +55,7 @@ module _ (p : List Leg) (ranges : All (Ranges 32) p) (few : length p ≤ 256) wh
 
   -- no margin
   pub margin-limit : (g : ℕ) → marginOf (groupOf g p) ≤ limit
-  margin-limit g = omega (arith, margin-bound (groupOf g p) (group-ranges g), group-few g)
+  margin-limit g = legs-margin p ranges few g
 
   -- and not all margins together
   pub margins-limit : (n : ℕ) → total n (λ g. marginOf (groupOf g p)) ≤ limit
@@ -72,7 +64,7 @@ module _ (p : List Leg) (ranges : All (Ranges 32) p) (few : length p ≤ 256) wh
       omega (
         arith,
         total-le n 0 (λ g. marginOf (groupOf g p)) (λ g. sum (λ l. 10000000000000000) (groupOf g p)) (λ g. 0)
-            (λ g a b. omega (arith, margin-bound (groupOf g p) (group-ranges g), sum-fixed 10000000000000000 (groupOf g p))),
+            (λ g a b. omega (arith, margin-bound (groupOf g p) (legs-ranges p ranges few g), sum-fixed 10000000000000000 (groupOf g p))),
         by-group-upto (λ l. 10000000000000000) (λ l. l .group) p n,
         sum-bound (λ l. only (leb (l .group) n) 10000000000000000) 10000000000000000 p
             (every p (λ l. only-less (leb (l .group) n) 10000000000000000)),

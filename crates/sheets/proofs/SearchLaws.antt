@@ -13,7 +13,7 @@ use Rattle.records.specs.Tables.{legsOf, legsFrom, claimsOf, claimsFrom}
 use Rattle.records.specs.declared.claims.Claim.{Claim}
 use Rattle.records.specs.declared.legs.Leg.{Leg}
 use Rattle.records.specs.declared.refusals.Fault.the-variants.{Nothing, Is}
-use Rattle.records.proofs.ChunkLaws.{legs-all, legs-step, legs-none, claims-step, part-is}
+use Rattle.records.proofs.ChunkLaws.{legs-all, legs-none, leg-next}
 use Rattle.records.proofs.ListLaws.{sum-step, sum-over}
 use Rattle.sheets.specs.Lines.{sameLineSide, contractsOf}
 use Rattle.sheets.specs.Sheets.{askNumbered}
@@ -23,9 +23,6 @@ use Rattle.records.proofs.OrderLaws.{ask-good, ask-bad, ask-none}
 -- record i as code reads it
 abbrev pub legPart : List ℕ → ℕ → Leg
 legPart xs i = legOf (take (32 * i + 32 - 32 * i) (drop (32 * i) xs))
-
-pub leg-next : (xs : List ℕ) (i : ℕ) (l : Leg) → l ≡ legPart xs i → i < length xs / 32 → legsFrom xs i ≡ l ∷ legsFrom xs (i + 1)
-leg-next xs i l e h = rw (e, part-is 32 i xs) (legs-step xs i h)
 
 module _ (good : Leg → Bool) (number table : ℕ) (xs : List ℕ) (i : ℕ) where
   pub search-holds : firstOf (askEach good number table 0 (legsOf xs)) ≡ firstOf (askEach good number table 0 (legsFrom xs 0))
@@ -37,16 +34,12 @@ module _ (good : Leg → Bool) (number table : ℕ) (xs : List ℕ) (i : ℕ) wh
 
     module _ (l : Leg) (e : l ≡ legPart xs i) (h : i < length xs / 32) where
       pub search-good : good l ≡ true → firstOf (askEach good number table 0 (legsOf xs)) ≡ firstOf (askEach good number table (i + 1) (legsFrom xs (i + 1)))
-      search-good g = so-far ∙ ask-good good number table i l (legsFrom xs i) (legsFrom xs (i + 1)) (leg-next xs i l e h) g
+      search-good g = so-far ∙ ask-good good number table i l (legsFrom xs i) (legsFrom xs (i + 1)) (leg-next xs i l h e) g
 
       pub search-bad : good l ≡ false → Is (refuse number table i) ≡ firstOf (askEach good number table 0 (legsOf xs))
-      search-bad b = sym (so-far ∙ ask-bad good number table i l (legsFrom xs i) (legsFrom xs (i + 1)) (leg-next xs i l e h) b)
+      search-bad b = sym (so-far ∙ ask-bad good number table i l (legsFrom xs i) (legsFrom xs (i + 1)) (leg-next xs i l h e) b)
 
 -- ---- claims numbered in order
-
-pub claim-next : (xs : List ℕ) (i : ℕ) (k : Claim) → k ≡ claimOf (take (32 * i + 32 - 32 * i) (drop (32 * i) xs)) → i < length xs / 32
-    → claimsFrom xs i ≡ k ∷ claimsFrom xs (i + 1)
-claim-next xs i k e h = rw (e, part-is 32 i xs) (claims-step xs i h)
 
 module _ (i : ℕ) (k : Claim) (l ls : List Claim) (e : l ≡ k ∷ ls) where
   pub numbered-good : k .group ≡ i + 1 → firstOf (askNumbered i l) ≡ firstOf (askNumbered (i + 1) ls)
@@ -67,7 +60,7 @@ module _ (x : Leg) where
   pub contracts-step : (y : Leg) (xs : List ℕ) (i : ℕ) → y ≡ legPart xs i → i < length xs / 32
       → contractsOf x (legsFrom xs i) ≡ only (sameLineSide x y) (y .contracts .0) + contractsOf x (legsFrom xs (i + 1))
   unfolding contractsOf
-  contracts-step y xs i e h = sum-step _ y (legsFrom xs i) (legsFrom xs (i + 1)) (leg-next xs i y e h)
+  contracts-step y xs i e h = sum-step _ y (legsFrom xs i) (legsFrom xs (i + 1)) (leg-next xs i y h e)
 
   pub contracts-over : (xs : List ℕ) (i : ℕ) → length xs / 32 ≤ i → contractsOf x (legsFrom xs i) ≡ 0
   unfolding contractsOf

@@ -87,23 +87,35 @@ margin-bound legs r =
     most-bound (lossAt legs) (10000000000000000 * length legs) (strikesOf legs)
     (all-map (strikesOf legs) (λ k h. loss-bound k legs r h) (strikes-below legs r))
 
--- ---- a group of a checked placement
+-- ---- a group of a placement of at most 256 legs
+
+module _ (legs : List Leg) (ranges : All (Ranges 32) legs) (few : length legs ≤ 256) (g : ℕ) where
+  pub legs-ranges : All (Ranges 32) (groupOf g legs)
+  unfolding groupOf
+  legs-ranges = all-keep (Ranges 32) (λ l. eqb (l .group) g) legs ranges
+
+  pub legs-few : length (groupOf g legs) ≤ 256
+  unfolding groupOf
+  legs-few = omega (arith, length-keep (λ l. eqb (l .group) g) legs)
+
+  pub legs-margin : marginOf (groupOf g legs) ≤ 2560000000000000000
+  legs-margin = omega (arith, margin-bound (groupOf g legs) legs-ranges, legs-few)
+
+-- ---- the same of a checked table
 
 module _ (xs : List ℕ) (p : Placed xs) where
-  pub table-few : length xs / 32 ≤ 256
-  table-few = whole Placement (length xs) (p .whole) .1
+  pub table-few : length (legsOf xs) ≤ 256
+  table-few = omega (arith, length-legs xs, whole Placement (length xs) (p .whole) .1)
 
   pub table-ranges : All (Ranges 32) (legsOf xs)
   table-ranges = placement-ranges xs (p .fields)
 
   module _ (g : ℕ) where
     pub group-ranges : All (Ranges 32) (groupOf g (legsOf xs))
-    unfolding groupOf
-    group-ranges = all-keep (Ranges 32) (λ l. eqb (l .group) g) (legsOf xs) table-ranges
+    group-ranges = legs-ranges (legsOf xs) table-ranges table-few g
 
     pub group-few : length (groupOf g (legsOf xs)) ≤ 256
-    unfolding groupOf
-    group-few = omega (arith, length-keep (λ l. eqb (l .group) g) (legsOf xs), length-legs xs, table-few)
+    group-few = legs-few (legsOf xs) table-ranges table-few g
 
     pub margin-small : marginOf (groupOf g (legsOf xs)) ≤ 2560000000000000000
-    margin-small = omega (arith, margin-bound (groupOf g (legsOf xs)) group-ranges, group-few)
+    margin-small = legs-margin (legsOf xs) table-ranges table-few g

@@ -1,6 +1,6 @@
 -- A loop over the records of a table that looks at the legs of one group: what is left of the group from record i on.
 use Prim.Native.Nat.{ℕ, _+_, _-_, _*_, _/_, _≤_, _<_}
-use mathlib.Core.Path.{_≡_, sym, ap, _∙_}
+use mathlib.Core.Path.{_≡_, ap}
 use mathlib.Core.List.{List, [], _∷_}
 use lib.Dec.{eqb}
 use lib.ListN.{length, take, drop}
@@ -9,7 +9,7 @@ use Rattle.records.specs.Legs.{legOf}
 use Rattle.records.specs.Tables.{legsOf, legsFrom}
 use Rattle.records.specs.declared.legs.Leg.{Leg}
 use Rattle.records.proofs.ListLaws.{keep-in, keep-out, keep-none}
-use Rattle.records.proofs.ChunkLaws.{legs-all, legs-step, legs-none, part-is}
+use Rattle.records.proofs.ChunkLaws.{legs-all, legs-none, leg-next}
 use Rattle.spreads.specs.Spreads.{groupOf}
 
 abbrev pub rest : ℕ → List ℕ → ℕ → List Leg
@@ -25,13 +25,10 @@ module _ (g : ℕ) (xs : List ℕ) where
 
   -- l is record i as the code reads it
   module _ (i : ℕ) (l : Leg) (h : i < length xs / 32) (e : l ≡ legOf (take (32 * i + 32 - 32 * i) (drop (32 * i) xs))) where
-    step : legsFrom xs i ≡ l ∷ legsFrom xs (i + 1)
-    step = legs-step xs i h ∙ ap (λ (k : Leg). k ∷ legsFrom xs (i + 1)) (sym (rw (part-is 32 i xs) at e))
-
     pub rest-in : l .group ≡ g → rest g xs i ≡ l ∷ rest g xs (i + 1)
     unfolding groupOf
-    rest-in q = keep-in (λ k. eqb (k .group) g) l (legsFrom xs i) (legsFrom xs (i + 1)) step (eq-eqb (l .group) g q)
+    rest-in q = keep-in (λ k. eqb (k .group) g) l (legsFrom xs i) (legsFrom xs (i + 1)) (leg-next xs i l h e) (eq-eqb (l .group) g q)
 
     pub rest-out : (l .group ≡ g → ⊥) → rest g xs i ≡ rest g xs (i + 1)
     unfolding groupOf
-    rest-out q = keep-out (λ k. eqb (k .group) g) l (legsFrom xs i) (legsFrom xs (i + 1)) step (ne-eqb (l .group) g q)
+    rest-out q = keep-out (λ k. eqb (k .group) g) l (legsFrom xs i) (legsFrom xs (i + 1)) (leg-next xs i l h e) (ne-eqb (l .group) g q)

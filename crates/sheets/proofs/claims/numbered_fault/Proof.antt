@@ -1,8 +1,8 @@
 use native.Mathlib.Omega.{arith}
 use borrow.Author.Needs.{needs}
-use Rattle.sheets.proofs.SearchLaws.{claim-next, numbered-good, numbered-bad, numbered-none}
+use Rattle.sheets.proofs.SearchLaws.{numbered-good, numbered-bad, numbered-none}
 use Rattle.sheets.specs.Sheets.{askNumbered}
-use Rattle.records.proofs.ChunkLaws.{claims-all, claims-none}
+use Rattle.records.proofs.ChunkLaws.{claims-all, claims-none, claim-next}
 use Rattle.records.specs.Tables.{claimsOf, claimsFrom}
 use Rattle.records.specs.Order.{firstOf}
 use denote.Ref.{now}
@@ -26,13 +26,13 @@ loop-again : tie.Need-loop-again Inv-loop μ-loop
 loop-again c =
     let t = c .before .before .before .before .before in
     let a = t .before .before .args in
-    (refl, omega arith, t .loop .inv .2 ∙ numbered-good (t .loop .i) (c .before .before .claim-of .result) (claimsFrom (now (a .claims)) (t .loop .i)) (claimsFrom (now (a .claims)) (t .loop .i + 1)) (claim-next (now (a .claims)) (t .loop .i) _ (c .before .before .claim-of .ensures) (omega arith)) (c .if1 .taken))
+    (refl, omega arith, t .loop .inv .2 ∙ numbered-good (t .loop .i) (c .before .before .claim-of .result) (claimsFrom (now (a .claims)) (t .loop .i)) (claimsFrom (now (a .claims)) (t .loop .i + 1)) (claim-next (now (a .claims)) (t .loop .i) _ (omega arith) (c .before .before .claim-of .ensures)) (c .if1 .taken))
 
 returns : tie.Need-returns Inv-loop μ-loop
 returns c =
     let t = c .before .before .before .before .before in
     let a = t .before .before .args in
-    sym (t .loop .inv .2 ∙ numbered-bad (t .loop .i) (c .before .before .claim-of .result) (claimsFrom (now (a .claims)) (t .loop .i)) (claimsFrom (now (a .claims)) (t .loop .i + 1)) (claim-next (now (a .claims)) (t .loop .i) _ (c .before .before .claim-of .ensures) (omega arith)) (c .if1 .left))
+    sym (t .loop .inv .2 ∙ numbered-bad (t .loop .i) (c .before .before .claim-of .result) (claimsFrom (now (a .claims)) (t .loop .i)) (claimsFrom (now (a .claims)) (t .loop .i + 1)) (claim-next (now (a .claims)) (t .loop .i) _ (omega arith) (c .before .before .claim-of .ensures)) (c .if1 .left))
 
 returns-2 : tie.Need-returns-2 Inv-loop μ-loop
 returns-2 c =

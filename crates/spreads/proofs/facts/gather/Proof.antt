@@ -5,9 +5,6 @@ use native.Mathlib.Omega.{arith}
 use borrow.Author.Needs.{needs}
 use denote.Ref.{now}
 use lib.ListN.{length}
-use Rattle.records.proofs.ChunkLaws.{part-is}
-use Rattle.records.specs.Chunks.{chunkAt}
-use Rattle.records.specs.Legs.{legOf}
 use Rattle.spreads.proofs.RuleFacts.{Gathering, gathering-none, gathering-in, gathering-out, gathering-done}
 use Rattle.spreads.proofs.facts.gather.Statement.{statement}
 use Rattle.spreads.proofs.facts.gather.Tie as tie
@@ -27,7 +24,7 @@ loop-again c =
     let a = t .before .before .before .args in
     let xs = now (a .placement) in
     let i = t .loop .i in
-    let e : c .before .before .leg-of .result ≡ legOf (chunkAt 32 xs i) = rw (part-is 32 i xs) at (c .before .before .leg-of .ensures) in
+    let e = c .before .before .leg-of .ensures in
     ⊎-elim
     (λ w. (refl, omega arith, gathering-in (a .g) xs (t .loop .facts) i _ (omega arith) e (t .loop .inv .2) _ (w .0 .taken) (w .2 ∙ w .1 .ensures)))
     (λ w. (refl, omega arith, gathering-out (a .g) xs (t .loop .facts) i _ (omega arith) e (t .loop .inv .2) _ (w .0 .left) (w .1)))
