@@ -1,6 +1,6 @@
 -- A claim record of 32 bytes: '0-1 group, 1 to 32; 2-7 zero; 8-15 margin, 0 to 2,560,000,000,000,000,000; 16-31 zero'.
 use Prim.Native.Nat.{ℕ}
-use mathlib.Core.Bool.{Bool, _&&_}
+use mathlib.Core.Bool.{Bool, _&&_, cond}
 use mathlib.Core.List.{List}
 use lib.Dec.{eqb, leb}
 use lib.ListN.{length}
@@ -8,8 +8,10 @@ use Rattle.records.specs.Bytes.{leAt}
 use Rattle.records.specs.Dates.{within}
 use Rattle.records.specs.declared.claims.Claim.{Claim}
 
+-- the fields of a part of 32 bytes; a shorter one has none
 unfoldable pub claimOf : List ℕ → Claim
-claimOf xs = record { group = leAt xs 0 2; margin = leAt xs 8 8 }
+claimOf xs =
+    cond (leb 32 (length xs)) (record { group = leAt xs 0 2; margin = leAt xs 8 8 }) (record { group = 0; margin = 0 })
 
 unfoldable pub goodClaim : List ℕ → Bool
 goodClaim xs =

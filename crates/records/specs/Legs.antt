@@ -1,8 +1,8 @@
 -- A leg record of 32 bytes: document 01's table of fields, row by row.
 use Prim.Native.Nat.{ℕ, _+_, _*_, min}
-use mathlib.Core.Bool.{Bool, _&&_}
+use mathlib.Core.Bool.{Bool, _&&_, cond}
 use mathlib.Core.List.{List}
-use lib.Dec.{eqb}
+use lib.Dec.{eqb, leb}
 use lib.ListN.{length}
 use Rattle.records.specs.Bytes.{leAt}
 use Rattle.records.specs.Dates.{within, realDate}
@@ -14,8 +14,8 @@ abbrev pub contractsFrom : ℕ → Contracts
 contractsFrom n = record { 0 = n }
 
 -- where each field stands
-unfoldable pub legOf : List ℕ → Leg
-legOf xs =
+unfoldable pub fieldsOf : List ℕ → Leg
+fieldsOf xs =
     record {
       group = leAt xs 0 2;
       side = leAt xs 2 1;
@@ -28,6 +28,26 @@ legOf xs =
       expiry = leAt xs 16 4;
       contracts = contractsFrom (leAt xs 20 4);
     }
+
+-- no field at all
+abbrev pub blankLeg : Leg
+blankLeg =
+    record {
+      group = 0;
+      side = 0;
+      right = 0;
+      style = 0;
+      market = 0;
+      size = 0;
+      underlying = 0;
+      strike = 0;
+      expiry = 0;
+      contracts = contractsFrom 0;
+    }
+
+-- the fields of a part of 32 bytes; a shorter one has none
+unfoldable pub legOf : List ℕ → Leg
+legOf xs = cond (leb 32 (length xs)) (fieldsOf xs) blankLeg
 
 -- each field's range; the group is at most `top`
 unfoldable pub inRange : ℕ → Leg → Bool

@@ -2,9 +2,9 @@
 ghost use mathlib.Core.Path.{_≡_};
 ghost use Rattle.records.specs.Claims.{claimOf, goodClaim};
 use crate::dates::is_within;
-use crate::fields::u16_at;
-use crate::fields::u32_at;
-use crate::fields::u64_at;
+use crate::fields::u16_in;
+use crate::fields::u32_in;
+use crate::fields::u64_in;
 
 pub struct Claim {
     pub group: u16,
@@ -12,13 +12,19 @@ pub struct Claim {
     pub margin: u64,
 }
 
-// The fields of a claim's part. Bytes past the part's end count as zero.
+// The fields of a claim's part; of fewer than 32 bytes a blank, all zero.
 pub fn claim_of(part: &[u8]) -> Claim
     ensures { λ r. ⌜ r ≡ claimOf (now (part .entry)) ⌝ }
 {
+    if 32 <= part.len() {
+        return Claim {
+            group: u16_in(part, 0),
+            margin: u64_in(part, 8),
+        };
+    }
     Claim {
-        group: u16_at(part, 0),
-        margin: u64_at(part, 8),
+        group: 0,
+        margin: 0,
     }
 }
 
@@ -30,9 +36,9 @@ pub(crate) fn good_claim(part: &[u8]) -> bool
     }
     let claim = claim_of(part);
     is_within(1, 32, claim.group as u32)
-        & (u16_at(part, 2) == 0)
-        & (u32_at(part, 4) == 0)
+        & (u16_in(part, 2) == 0)
+        & (u32_in(part, 4) == 0)
         & (claim.margin <= 2560000000000000000)
-        & (u64_at(part, 16) == 0)
-        & (u64_at(part, 24) == 0)
+        & (u64_in(part, 16) == 0)
+        & (u64_in(part, 24) == 0)
 }

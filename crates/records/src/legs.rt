@@ -1,13 +1,15 @@
 // A leg record: its fields, where they stand in its 32 bytes, and their ranges.
 ghost use mathlib.Core.Path.{_≡_};
-ghost use Rattle.records.specs.Legs.{legOf, inRange, goodLeg};
+ghost use Prim.Native.Nat.{_≤_};
+ghost use lib.ListN.{length};
+ghost use Rattle.records.specs.Legs.{fieldsOf, legOf, inRange, goodLeg};
 use crate::counts::Contracts;
 use crate::dates::is_within;
 use crate::dates::real_date;
-use crate::fields::byte_at;
-use crate::fields::u16_at;
-use crate::fields::u32_at;
-use crate::fields::u64_at;
+use crate::fields::u8_in;
+use crate::fields::u16_in;
+use crate::fields::u32_in;
+use crate::fields::u64_in;
 
 pub struct Leg {
     pub group: u16,
@@ -29,21 +31,42 @@ pub struct Leg {
     pub contracts: Contracts,
 }
 
-// The fields of a record's part. Bytes past the part's end count as zero.
+fn fields_of(part: &[u8]) -> Leg
+    requires { ⌜ 32 ≤ length (now part) ⌝ }
+    ensures { λ r. ⌜ r ≡ fieldsOf (now (part .entry)) ⌝ }
+{
+    Leg {
+        group: u16_in(part, 0),
+        side: u8_in(part, 2),
+        right: u8_in(part, 3),
+        style: u8_in(part, 4),
+        market: u8_in(part, 5),
+        size: u16_in(part, 6),
+        underlying: u32_in(part, 8),
+        strike: u32_in(part, 12),
+        expiry: u32_in(part, 16),
+        contracts: Contracts(u32_in(part, 20)),
+    }
+}
+
+// The fields of a record's part; of fewer than 32 bytes a blank, all zero.
 pub fn leg_of(part: &[u8]) -> Leg
     ensures { λ r. ⌜ r ≡ legOf (now (part .entry)) ⌝ }
 {
+    if 32 <= part.len() {
+        return fields_of(part);
+    }
     Leg {
-        group: u16_at(part, 0),
-        side: byte_at(part, 2),
-        right: byte_at(part, 3),
-        style: byte_at(part, 4),
-        market: byte_at(part, 5),
-        size: u16_at(part, 6),
-        underlying: u32_at(part, 8),
-        strike: u32_at(part, 12),
-        expiry: u32_at(part, 16),
-        contracts: Contracts(u32_at(part, 20)),
+        group: 0,
+        side: 0,
+        right: 0,
+        style: 0,
+        market: 0,
+        size: 0,
+        underlying: 0,
+        strike: 0,
+        expiry: 0,
+        contracts: Contracts(0),
     }
 }
 
@@ -69,5 +92,5 @@ pub(crate) fn good_leg(top: u16, part: &[u8]) -> bool
     if part.len() != 32 {
         return false;
     }
-    in_range(top, leg_of(part)) & (u64_at(part, 24) == 0)
+    in_range(top, leg_of(part)) & (u64_in(part, 24) == 0)
 }

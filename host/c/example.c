@@ -1,0 +1,129 @@
+/*
+ * A member house's first sheet, from C: the iron condor of document 01's bench (P4) placed
+ * as two groups, checked, written as a file, read back, and refused when a claim is a mill
+ * short.
+ *
+ *   cc -I ../include example.c ../../target/staticlib/libusm_c.a -o example
+ */
+
+#include <inttypes.h>
+#include <stdio.h>
+#include <string.h>
+
+#include "usm.h"
+
+enum { LONG = 1, SHORT = 2 };
+enum { CALL = 1, PUT = 2 };
+enum { AMERICAN = 1, LISTED = 1 };
+
+static void put(uint8_t *record, size_t at, size_t bytes, uint64_t value)
+{
+    for (size_t i = 0; i < bytes; i++)
+        record[at + i] = (uint8_t)(value >> (8 * i));
+}
+
+/* One contract of unit 100 on underlying 7, expiring 2011-05-21. */
+static void leg(uint8_t *record, unsigned group, unsigned side, unsigned type, uint32_t strike)
+{
+    memset(record, 0, USM_RECORD_BYTES);
+    put(record, 0, 2, group);
+    put(record, 2, 1, side);
+    put(record, 3, 1, type);
+    put(record, 4, 1, AMERICAN);
+    put(record, 5, 1, LISTED);
+    put(record, 6, 2, 100);
+    put(record, 8, 4, 7);
+    put(record, 12, 4, strike);
+    put(record, 16, 4, 20110521);
+    put(record, 20, 4, 1);
+}
+
+static void claim(uint8_t *record, unsigned group, uint64_t margin)
+{
+    memset(record, 0, USM_RECORD_BYTES);
+    put(record, 0, 2, group);
+    put(record, 8, 8, margin);
+}
+
+static int refused(const char *call, const uint64_t *answer)
+{
+    if (answer[0] == 0)
+        return 0;
+    printf("%s: refusal %" PRIu64 ", table %" PRIu64 ", place %" PRIu64 "\n",
+           call, answer[0], answer[1], answer[2]);
+    return 1;
+}
+
+int main(void)
+{
+    static const struct { unsigned group, side, type; uint32_t strike; } legs[4] = {
+        { 1, LONG, PUT, 50000 }, { 1, SHORT, PUT, 60000 },
+        { 2, SHORT, CALL, 65000 }, { 2, LONG, CALL, 70000 },
+    };
+    uint8_t holdings[4 * USM_RECORD_BYTES], placement[4 * USM_RECORD_BYTES];
+    uint8_t claims[2 * USM_RECORD_BYTES];
+    uint64_t answer[USM_ANSWER_NUMBERS];
+
+    for (size_t i = 0; i < 4; i++) {
+        leg(holdings + i * USM_RECORD_BYTES, 0, legs[i].side, legs[i].type, legs[i].strike);
+        leg(placement + i * USM_RECORD_BYTES, legs[i].group, legs[i].side, legs[i].type, legs[i].strike);
+    }
+
+    /* The margins of both groups, and the claims made from them. */
+    int64_t margins[2];
+    usm_margins(placement, sizeof placement, 2, margins, 2, answer);
+    if (refused("usm_margins", answer))
+        return 1;
+    for (unsigned g = 1; g <= 2; g++) {
+        printf("group %u margin %" PRId64 "\n", g, margins[g - 1]);
+        claim(claims + (g - 1) * USM_RECORD_BYTES, g, (uint64_t)margins[g - 1]);
+    }
+
+    /* The worksheet of group 1. */
+    uint32_t strikes[USM_MOST_LEGS];
+    int64_t nets[USM_MOST_LEGS];
+    usm_worksheet(placement, sizeof placement, 1, strikes, USM_MOST_LEGS, nets, USM_MOST_LEGS, answer);
+    if (refused("usm_worksheet", answer))
+        return 1;
+    for (uint64_t i = 0; i < answer[1]; i++)
+        printf("strike %" PRIu32 " net %" PRId64 "\n", strikes[i], nets[i]);
+
+    /* The verdict on the three tables. */
+    usm_check_sheet(holdings, sizeof holdings, placement, sizeof placement, claims, sizeof claims, answer);
+    if (refused("usm_check_sheet", answer))
+        return 1;
+    printf("accepted: groups %" PRIu64 ", total %" PRIu64 " mills\n", answer[1], answer[2]);
+
+    /* The file, the line the checker prints for it, and the way back. */
+    uint8_t file[USM_LONGEST_FILE];
+    usm_write_file(holdings, sizeof holdings, placement, sizeof placement, claims, sizeof claims,
+                   file, sizeof file, answer);
+    if (refused("usm_write_file", answer))
+        return 1;
+    size_t file_len = (size_t)answer[1];
+    uint8_t line[USM_LINE_BYTES];
+    size_t line_len = usm_file_line(file, file_len, line);
+    printf("file of %zu bytes: %.*s", file_len, (int)line_len, (const char *)line);
+
+    uint8_t holdings_back[USM_LEGS_BYTES], placement_back[USM_LEGS_BYTES], claims_back[USM_CLAIMS_BYTES];
+    usm_read_file(file, file_len, holdings_back, sizeof holdings_back, placement_back, sizeof placement_back,
+                  claims_back, sizeof claims_back, answer);
+    if (refused("usm_read_file", answer))
+        return 1;
+    int same = memcmp(holdings, holdings_back, sizeof holdings) == 0
+        && memcmp(placement, placement_back, sizeof placement) == 0
+        && memcmp(claims, claims_back, sizeof claims) == 0;
+    printf("read back %" PRIu64 " + %" PRIu64 " + %" PRIu64 " records, %s\n",
+           answer[1], answer[2], answer[3], same ? "the same" : "NOT the same");
+
+    /* A claim one mill short is refusal 16 at group 2. */
+    claim(claims + USM_RECORD_BYTES, 2, (uint64_t)margins[1] - 1);
+    usm_check_sheet(holdings, sizeof holdings, placement, sizeof placement, claims, sizeof claims, answer);
+    refused("usm_check_sheet", answer);
+
+    /* An empty table is length 0 with a pointer all the same, never NULL. */
+    uint8_t none[1] = { 0 };
+    usm_write_file(none, 0, none, 0, none, 0, file, sizeof file, answer);
+    refused("usm_write_file", answer);
+    return same ? 0 : 1;
+}

@@ -1,0 +1,214 @@
+//! The library's calls on Rust slices: tables and files as bytes, lent buffers as `&mut`.
+//!
+//! Each answers for every input. On a refusal nothing lent is written; on success what
+//! lies past the output stays as it was.
+
+use crate::ffi;
+use crate::records::Table;
+use crate::refusal::{Accepted, RecordCounts, Refusal};
+
+/// Longest line `usm_file_line` writes.
+const LINE_BYTES: usize = 64;
+
+/// Runs a call that fills the four numbers of an answer, and parts results from refusals.
+///
+/// The pointers handed to the library come from Rust slices and arrays: never null, not
+/// even for empty ones, and `&mut` never overlaps another.
+fn ask(call: impl FnOnce(*mut u64)) -> Result<[u64; 3], Refusal> {
+    let mut answer = [0; 4];
+    call(answer.as_mut_ptr());
+    match answer {
+        [0, first, second, third] => Ok([first, second, third]),
+        [number, table, place, _] => Err(Refusal::new(number, table, place)),
+    }
+}
+
+/// How many records the table has, if it is whole (1) and its fields are in range (4).
+///
+/// ```
+/// use usm::{check_table, Refusal, Table};
+/// assert_eq!(check_table(Table::Claims, &[]), Ok(0));
+/// assert_eq!(check_table(Table::Claims, &[0; 31]), Err(Refusal::new(1, 0, 0)));
+/// assert_eq!(check_table(Table::Claims, &[0; 32]), Err(Refusal::new(4, 3, 0)));
+/// ```
+pub fn check_table(which: Table, table: &[u8]) -> Result<usize, Refusal> {
+    // SAFETY: the slice is readable for its length, the answer writable for four numbers.
+    ask(|answer| unsafe { ffi::usm_check_table(which.number(), table.as_ptr(), table.len(), answer) })
+        .map(|[records, ..]| records as usize)
+}
+
+/// The margin of group `g` in mills: 1, 4, then 6 to 13.
+///
+/// ```
+/// use usm::{margin, Refusal};
+/// assert_eq!(margin(&[], 1), Err(Refusal::new(6, 2, 1)));
+/// ```
+pub fn margin(placement: &[u8], g: u64) -> Result<i64, Refusal> {
+    // SAFETY: as in `check_table`.
+    ask(|answer| unsafe { ffi::usm_margin(placement.as_ptr(), placement.len(), g, answer) })
+        .map(|[margin, ..]| margin as i64)
+}
+
+/// The margins of groups 1 to `n` from `out[0]` on; answers `n`.
+///
+/// After 1 and 4 the groups are judged in ascending order (6 to 13); then 17, with place
+/// `n`, if `out` is shorter.
+///
+/// ```
+/// let mut out = [-7; 2];
+/// assert_eq!(usm::margins(&[], 0, &mut out), Ok(0));
+/// assert_eq!(out, [-7, -7]);
+/// ```
+pub fn margins(placement: &[u8], n: u64, out: &mut [i64]) -> Result<usize, Refusal> {
+    // SAFETY: as in `check_table`; `out` is lent for its length.
+    ask(|answer| unsafe {
+        ffi::usm_margins(placement.as_ptr(), placement.len(), n, out.as_mut_ptr(), out.len(), answer)
+    })
+    .map(|[groups, ..]| groups as usize)
+}
+
+/// The distinct strikes of group `g`, ascending, and the net at each; answers how many.
+///
+/// 1, 4, 6 to 13, then 17, with the number of strikes, if either slice is shorter.
+///
+/// ```
+/// let (mut strikes, mut nets) = ([0; 4], [0; 4]);
+/// let refusal = usm::worksheet(&[], 3, &mut strikes, &mut nets).unwrap_err();
+/// assert_eq!((refusal.number, refusal.place), (6, 3));
+/// ```
+pub fn worksheet(placement: &[u8], g: u64, strikes: &mut [u32], nets: &mut [i64]) -> Result<usize, Refusal> {
+    // SAFETY: as in `check_table`; both slices are lent for their lengths.
+    ask(|answer| unsafe {
+        ffi::usm_worksheet(
+            placement.as_ptr(),
+            placement.len(),
+            g,
+            strikes.as_mut_ptr(),
+            strikes.len(),
+            nets.as_mut_ptr(),
+            nets.len(),
+            answer,
+        )
+    })
+    .map(|[rows, ..]| rows as usize)
+}
+
+/// The verdict on a sheet given as three tables.
+///
+/// ```
+/// use usm::{check_sheet, Accepted};
+/// assert_eq!(check_sheet(&[], &[], &[]), Ok(Accepted { groups: 0, total: 0 }));
+/// ```
+pub fn check_sheet(holdings: &[u8], placement: &[u8], claims: &[u8]) -> Result<Accepted, Refusal> {
+    // SAFETY: as in `check_table`.
+    ask(|answer| unsafe {
+        ffi::usm_check_sheet(
+            holdings.as_ptr(),
+            holdings.len(),
+            placement.as_ptr(),
+            placement.len(),
+            claims.as_ptr(),
+            claims.len(),
+            answer,
+        )
+    })
+    .map(accepted)
+}
+
+/// The verdict on a sheet file.
+///
+/// ```
+/// assert_eq!(usm::check_file(b"no sheet"), Err(usm::Refusal::new(1, 0, 0)));
+/// ```
+pub fn check_file(file: &[u8]) -> Result<Accepted, Refusal> {
+    // SAFETY: as in `check_table`.
+    ask(|answer| unsafe { ffi::usm_check_file(file.as_ptr(), file.len(), answer) }).map(accepted)
+}
+
+/// Takes a sheet file apart: each kind's records from byte 0 of its lent table.
+///
+/// The lent tables may have any length. 1 to 4 about the file, then 17 at the first table
+/// that is too short, with the bytes it needs.
+///
+/// ```
+/// let mut holdings = [0; 8];
+/// let refusal = usm::read_file(&[0; 512], &mut holdings, &mut [], &mut []).unwrap_err();
+/// assert_eq!(refusal.to_string(), "block 0 is out of form: its header, its unused bytes, \
+///     its place among the kinds, or a table that grows past its limit");
+/// ```
+pub fn read_file(
+    file: &[u8],
+    holdings: &mut [u8],
+    placement: &mut [u8],
+    claims: &mut [u8],
+) -> Result<RecordCounts, Refusal> {
+    // SAFETY: as in `check_table`; the three tables are lent for their lengths.
+    ask(|answer| unsafe {
+        ffi::usm_read_file(
+            file.as_ptr(),
+            file.len(),
+            holdings.as_mut_ptr(),
+            holdings.len(),
+            placement.as_mut_ptr(),
+            placement.len(),
+            claims.as_mut_ptr(),
+            claims.len(),
+            answer,
+        )
+    })
+    .map(|[holdings, placement, claims]| RecordCounts {
+        holdings: holdings as usize,
+        placement: placement as usize,
+        claims: claims as usize,
+    })
+}
+
+/// Writes three tables as a sheet file into `out`; answers its length in bytes.
+///
+/// 1 (also for three empty tables), 4, then 17 with the bytes needed. Tables that no check
+/// would accept are written all the same.
+///
+/// ```
+/// let claim = usm::Claim { group: 1, margin: 0 }.to_bytes();
+/// let mut out = [0; 600];
+/// assert_eq!(usm::write_file(&[], &[], &claim, &mut out), Ok(512));
+/// assert_eq!(&out[..4], b"USM1");
+/// ```
+pub fn write_file(
+    holdings: &[u8],
+    placement: &[u8],
+    claims: &[u8],
+    out: &mut [u8],
+) -> Result<usize, Refusal> {
+    // SAFETY: as in `check_table`; `out` is lent for its length.
+    ask(|answer| unsafe {
+        ffi::usm_write_file(
+            holdings.as_ptr(),
+            holdings.len(),
+            placement.as_ptr(),
+            placement.len(),
+            claims.as_ptr(),
+            claims.len(),
+            out.as_mut_ptr(),
+            out.len(),
+            answer,
+        )
+    })
+    .map(|[length, ..]| length as usize)
+}
+
+/// The line `usm_check` prints for this file, with its newline.
+///
+/// ```
+/// assert_eq!(usm::file_line(&[]), "REFUSE 1 0 0\n");
+/// ```
+pub fn file_line(file: &[u8]) -> String {
+    let mut line = [0; LINE_BYTES];
+    // SAFETY: as in `check_table`; the line has its 64 bytes.
+    let length = unsafe { ffi::usm_file_line(file.as_ptr(), file.len(), line.as_mut_ptr()) };
+    line[..length].iter().copied().map(char::from).collect()
+}
+
+fn accepted([groups, total, _]: [u64; 3]) -> Accepted {
+    Accepted { groups, total: total as i64 }
+}

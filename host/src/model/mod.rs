@@ -1,0 +1,119 @@
+//! An independent model of the library in plain Rust, written from document 01 alone.
+//!
+//! It shares no line with the proved sources. The differential tests hold the two
+//! against each other, and the benchmark runs them side by side. Its calls have the
+//! same signatures as the wrapper's at the top of this package.
+
+mod file;
+mod sheet;
+mod spread;
+mod tables;
+
+use crate::records::{Table, RECORD_BYTES};
+use crate::refusal::{Accepted, RecordCounts, Refusal};
+use tables::Tables;
+
+/// How many records a table has, if it is whole and every field is in range.
+pub fn check_table(which: Table, table: &[u8]) -> Result<usize, Refusal> {
+    tables::check_size(which, table)?;
+    match which {
+        Table::Holdings | Table::Placement => tables::legs(which, table).map(|legs| legs.len()),
+        Table::Claims => tables::claims(table).map(|claims| claims.len()),
+    }
+}
+
+/// The margin of group `g`, in mills.
+pub fn margin(placement: &[u8], g: u64) -> Result<i64, Refusal> {
+    let placement = tables::placement(placement)?;
+    Ok(spread::margin(&spread::of_group(&placement, g)?))
+}
+
+/// The margins of groups 1 to `n`, from `out[0]`.
+pub fn margins(placement: &[u8], n: u64, out: &mut [i64]) -> Result<usize, Refusal> {
+    let placement = tables::placement(placement)?;
+    let margins = (1..=n)
+        .map(|g| spread::of_group(&placement, g).map(|group| spread::margin(&group)))
+        .collect::<Result<Vec<i64>, Refusal>>()?;
+    let room = out.get_mut(..margins.len()).ok_or(Refusal::new(17, 0, n))?;
+    room.copy_from_slice(&margins);
+    Ok(margins.len())
+}
+
+/// The distinct strikes of group `g`, ascending, and the net at each.
+pub fn worksheet(placement: &[u8], g: u64, strikes: &mut [u32], nets: &mut [i64]) -> Result<usize, Refusal> {
+    let placement = tables::placement(placement)?;
+    let rows = spread::worksheet(&spread::of_group(&placement, g)?);
+    if strikes.len() < rows.len() || nets.len() < rows.len() {
+        return Err(Refusal::new(17, 0, rows.len() as u64));
+    }
+    for (index, row) in rows.iter().enumerate() {
+        strikes[index] = row.strike;
+        nets[index] = row.net;
+    }
+    Ok(rows.len())
+}
+
+/// The verdict on a sheet given as three tables.
+pub fn check_sheet(holdings: &[u8], placement: &[u8], claims: &[u8]) -> Result<Accepted, Refusal> {
+    sheet::judge(&Tables { holdings, placement, claims }.decode()?)
+}
+
+/// The verdict on a sheet file.
+pub fn check_file(file: &[u8]) -> Result<Accepted, Refusal> {
+    let parts = file::parts(file)?;
+    sheet::judge(&parts.tables().decode()?)
+}
+
+/// Takes a sheet file apart into three lent tables.
+pub fn read_file(
+    file: &[u8],
+    holdings: &mut [u8],
+    placement: &mut [u8],
+    claims: &mut [u8],
+) -> Result<RecordCounts, Refusal> {
+    let parts = file::parts(file)?;
+    let tables = parts.tables();
+    tables.decode()?;
+    let lent = [holdings, placement, claims];
+    let found = [tables.holdings, tables.placement, tables.claims];
+    for ((which, room), records) in Table::ALL.iter().zip(&lent).zip(&found) {
+        if room.len() < records.len() {
+            return Err(Refusal::new(17, which.number(), records.len() as u64));
+        }
+    }
+    for (room, records) in lent.into_iter().zip(&found) {
+        room[..records.len()].copy_from_slice(records);
+    }
+    Ok(RecordCounts {
+        holdings: tables.holdings.len() / RECORD_BYTES,
+        placement: tables.placement.len() / RECORD_BYTES,
+        claims: tables.claims.len() / RECORD_BYTES,
+    })
+}
+
+/// Writes three tables as a sheet file into a lent buffer and answers its length.
+pub fn write_file(
+    holdings: &[u8],
+    placement: &[u8],
+    claims: &[u8],
+    out: &mut [u8],
+) -> Result<usize, Refusal> {
+    let tables = Tables { holdings, placement, claims };
+    tables.check_sizes()?;
+    if tables.are_empty() {
+        return Err(Refusal::new(1, 0, 0));
+    }
+    tables.decode()?;
+    let length = file::length(&tables);
+    let room = out.get_mut(..length).ok_or(Refusal::new(17, 0, length as u64))?;
+    file::fill(&tables, room);
+    Ok(length)
+}
+
+/// The line `usm_check` prints for this file.
+pub fn file_line(file: &[u8]) -> String {
+    match check_file(file) {
+        Ok(accepted) => accepted.line(),
+        Err(refusal) => refusal.line(),
+    }
+}

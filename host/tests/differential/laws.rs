@@ -1,0 +1,57 @@
+//! What document 01 promises about margins, tried on the library's own answers, without
+//! the model.
+
+use std::collections::BTreeMap;
+use std::fmt::Display;
+
+use usm::{Leg, OptionType, Sheet, Side};
+
+use crate::random::Random;
+
+/// d times a leg's value at the price n/d.
+fn value(leg: &Leg, n: i128, d: i128) -> i128 {
+    let strike = d * i128::from(leg.strike);
+    let intrinsic = match leg.option_type {
+        OptionType::Call => (n - strike).max(0),
+        OptionType::Put => (strike - n).max(0),
+    };
+    let worth = i128::from(leg.units()) * intrinsic;
+    if leg.side == Side::Long {
+        worth
+    } else {
+        -worth
+    }
+}
+
+/// At any price n/d, chosen for each underlying by itself, an accepted account loses no
+/// more than the total, and a group no more than its margin.
+pub fn margins_cover_every_price(case: &dyn Display, random: &mut Random, sheet: &Sheet) {
+    let total = i128::from(sheet.check().expect("an accepted sheet").total);
+    let d = i128::from(random.between(1, 7));
+    let mut prices: BTreeMap<u32, i128> = BTreeMap::new();
+    for leg in &sheet.holdings {
+        // Near a strike, where nets turn; or anywhere, far above all strikes too.
+        let price = match random.below(3) {
+            0 => d * i128::from(leg.strike) + i128::from(random.between(0, 8)) - 4,
+            1 => i128::from(random.next() >> random.between(24, 63)),
+            _ => i128::from(random.between(0, 200_000)),
+        };
+        prices.entry(leg.underlying).or_insert(price.max(0));
+    }
+    let net: i128 = sheet.holdings.iter().map(|leg| value(leg, prices[&leg.underlying], d)).sum();
+    assert!(-net <= d * total, "{case}: at {prices:?} over {d} the account loses {} of {total}", -net);
+    for claim in &sheet.claims {
+        let legs = sheet.placement.iter().filter(|leg| leg.group == claim.group);
+        let net: i128 = legs.map(|leg| value(leg, prices[&leg.underlying], d)).sum();
+        assert!(-net <= d * i128::from(claim.margin), "{case}: group {} is not covered", claim.group);
+    }
+}
+
+/// No margin is larger than it must be: it is 0, or the loss at some strike.
+pub fn margins_are_reached(case: &dyn Display, sheet: &Sheet) {
+    for claim in &sheet.claims {
+        let g = u64::from(claim.group);
+        let worst = sheet.worksheet(g).expect("a spread").iter().map(|(_, net)| -net).max();
+        assert_eq!(sheet.margin(g), Ok(worst.unwrap_or(0).max(0)), "{case}: group {g}");
+    }
+}

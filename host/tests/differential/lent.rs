@@ -1,0 +1,53 @@
+//! Lent buffers that notice every write: guards before and behind, all in a pattern.
+
+use std::fmt::Debug;
+
+const GUARD: usize = 40;
+
+/// A buffer to lend, between two guards.
+#[derive(Clone, Debug, PartialEq)]
+pub struct Lent<T> {
+    entries: Vec<T>,
+}
+
+impl<T: Copy + From<u8> + PartialEq + Debug> Lent<T> {
+    pub fn of_length(length: usize) -> Lent<T> {
+        let pattern = |index: usize| T::from((index * 37 % 251) as u8 ^ 0xA5);
+        Lent { entries: (0..GUARD + length + GUARD).map(pattern).collect() }
+    }
+
+    pub fn slice(&mut self) -> &mut [T] {
+        let end = self.entries.len() - GUARD;
+        &mut self.entries[GUARD..end]
+    }
+
+    /// Whether everything from `output` entries on, and the guards, are still the pattern.
+    pub fn stayed_past(&self, output: usize) -> bool {
+        let fresh = Lent::of_length(self.entries.len() - 2 * GUARD);
+        self.entries[..GUARD] == fresh.entries[..GUARD]
+            && self.entries[GUARD + output..] == fresh.entries[GUARD + output..]
+    }
+}
+
+/// Four numbers for an answer, between guards, none of which an answer ever holds.
+pub struct Answer {
+    numbers: [u64; 6],
+}
+
+const UNWRITTEN: u64 = 0xFEED_FACE_CAFE_BEEF;
+
+impl Answer {
+    pub fn unwritten() -> Answer {
+        Answer { numbers: [UNWRITTEN; 6] }
+    }
+
+    pub fn pointer(&mut self) -> *mut u64 {
+        self.numbers[1..5].as_mut_ptr()
+    }
+
+    /// The four numbers, if the guards stayed.
+    pub fn numbers(&self) -> Option<[u64; 4]> {
+        let [before, numbers @ .., behind] = self.numbers;
+        (before == UNWRITTEN && behind == UNWRITTEN).then_some(numbers)
+    }
+}

@@ -1,0 +1,142 @@
+//! The committed samples are exactly what the program makes, and print what their table says.
+
+mod common;
+
+use std::collections::BTreeMap;
+use std::fs;
+use std::path::{Path, PathBuf};
+use std::process::Stdio;
+
+use usm::{model, text, Sheet};
+
+fn committed() -> PathBuf {
+    Path::new(env!("CARGO_MANIFEST_DIR")).join("../samples")
+}
+
+/// A fresh folder of this test's own.
+fn folder(name: &str) -> PathBuf {
+    let folder = Path::new(env!("CARGO_TARGET_TMPDIR")).join(name);
+    let _ = fs::remove_dir_all(&folder);
+    fs::create_dir_all(&folder).expect("a folder for the test");
+    folder
+}
+
+fn files_in(folder: &Path) -> BTreeMap<String, Vec<u8>> {
+    let entries =
+        fs::read_dir(folder).expect("the folder is there").map(|entry| entry.expect("an entry").path());
+    entries
+        .map(|path| {
+            let name = path.file_name().expect("a name").to_string_lossy().into_owned();
+            (name, fs::read(&path).expect("a file that can be read"))
+        })
+        .filter(|(name, _)| name != "README.md")
+        .collect()
+}
+
+/// The rows `| name | line | what it shows |` of the table in samples/README.md.
+fn table() -> BTreeMap<String, String> {
+    let readme = fs::read_to_string(committed().join("README.md")).expect("samples/README.md");
+    readme
+        .lines()
+        .filter_map(|row| {
+            let cells: Vec<&str> = row.split('|').map(str::trim).collect();
+            match cells.as_slice() {
+                ["", name, line, _, ""] if name.starts_with('`') => {
+                    Some((name.trim_matches('`').to_string(), line.trim_matches('`').to_string()))
+                }
+                _ => None,
+            }
+        })
+        .collect()
+}
+
+#[test]
+fn the_committed_samples_are_what_the_program_makes() {
+    let made = folder("samples");
+    let status =
+        common::program(env!("CARGO_BIN_EXE_usm_samples")).arg(&made).status().expect("usm_samples runs");
+    assert!(status.success());
+    let (made, committed) = (files_in(&made), files_in(&committed()));
+    assert_eq!(made.keys().collect::<Vec<_>>(), committed.keys().collect::<Vec<_>>());
+    for (name, bytes) in &made {
+        assert!(bytes == &committed[name], "{name} is not what usm_samples makes");
+    }
+}
+
+#[test]
+fn every_sample_prints_the_line_in_the_table() {
+    let (table, files) = (table(), files_in(&committed()));
+    let sheets: Vec<&String> = files.keys().filter(|name| name.ends_with(".usm")).collect();
+    assert!(sheets.len() >= 12, "a dozen samples");
+    assert_eq!(sheets, table.keys().collect::<Vec<_>>(), "the table has one row for each sample");
+    for (name, line) in &table {
+        assert_eq!(usm::file_line(&files[name]), format!("{line}\n"), "{name}, library");
+        assert_eq!(model::file_line(&files[name]), format!("{line}\n"), "{name}, model");
+    }
+}
+
+/// The proved program: where `USM_CHECK` says, or where `rt check` puts it, if it is there.
+fn checker() -> Option<PathBuf> {
+    match std::env::var_os("USM_CHECK") {
+        Some(named) => Some(PathBuf::from(named)),
+        None => {
+            let built = Path::new(env!("CARGO_MANIFEST_DIR")).join("../target/bin/usm_check");
+            built.is_file().then_some(built)
+        }
+    }
+}
+
+#[test]
+fn the_program_usm_check_prints_the_line_in_the_table() {
+    let checker = match checker() {
+        Some(checker) => checker,
+        None => {
+            println!(
+                "SKIPPED: target/bin/usm_check is not built (`rt check usm_check`), and USM_CHECK names none"
+            );
+            return;
+        }
+    };
+    let table = table();
+    assert!(table.len() >= 12, "a dozen samples");
+    for (name, line) in &table {
+        let sample = fs::File::open(committed().join(name)).expect("a sample");
+        let run = common::program(&checker).stdin(Stdio::from(sample)).output().expect("usm_check runs");
+        assert_eq!(String::from_utf8_lossy(&run.stdout), format!("{line}\n"), "{name}");
+        assert!(run.status.success(), "{name}");
+    }
+}
+
+#[test]
+fn the_text_of_a_sample_makes_its_file() {
+    let files = files_in(&committed());
+    let texts: Vec<&String> = files.keys().filter(|name| name.ends_with(".txt")).collect();
+    assert!(texts.len() >= 12);
+    for name in texts {
+        let text = String::from_utf8(files[name].clone()).expect("UTF-8");
+        let sheet = text::parse(&text).unwrap_or_else(|error| panic!("{name}: {error}"));
+        let file = &files[&name.replace(".txt", ".usm")];
+        assert_eq!(&sheet.to_file().expect("a sheet in range"), file, "{name}");
+        assert_eq!(Sheet::from_file(file), Ok(sheet), "{name}");
+    }
+}
+
+#[test]
+fn the_program_overwrites_nothing_unasked() {
+    let made = folder("samples-kept");
+    let kept = made.join("box.usm");
+    fs::write(&kept, "mine").expect("a file");
+    let run = |arguments: &[&str]| {
+        common::program(env!("CARGO_BIN_EXE_usm_samples"))
+            .arg(&made)
+            .args(arguments)
+            .output()
+            .expect("usm_samples runs")
+    };
+    let refused = run(&[]);
+    assert_eq!(refused.status.code(), Some(2));
+    assert!(String::from_utf8_lossy(&refused.stderr).contains("box.usm"));
+    assert_eq!(fs::read(&kept).expect("still there"), b"mine");
+    assert!(run(&["--force"]).status.success());
+    assert_ne!(fs::read(&kept).expect("overwritten"), b"mine");
+}
