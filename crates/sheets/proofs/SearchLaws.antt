@@ -1,8 +1,9 @@
 -- A search through the records of a table, as a loop over 32-byte parts sees it.
 use Prim.Native.Nat.{ℕ, _+_, _-_, _*_, _/_, _≤_, _<_}
 use mathlib.Core.Path.{_≡_, refl, sym, _∙_, ap}
-use mathlib.Core.Bool.{Bool, true, false}
+use mathlib.Core.Bool.{Bool, true, false, _&&_, and-true}
 use mathlib.Core.List.{List, [], _∷_}
+use lib.Dec.{eqb}
 use lib.ListN.{length, take, drop}
 use Rattle.records.specs.Chunks.{chunkAt}
 use Rattle.records.specs.Legs.{legOf}
@@ -15,7 +16,7 @@ use Rattle.records.specs.declared.legs.Leg.{Leg}
 use Rattle.records.specs.declared.refusals.Fault.the-variants.{Nothing, Is}
 use Rattle.records.proofs.ChunkLaws.{legs-all, legs-none, leg-next}
 use Rattle.records.proofs.ListLaws.{sum-step, sum-over}
-use Rattle.sheets.specs.Lines.{sameLineSide, contractsOf}
+use Rattle.sheets.specs.Lines.{sameLine, sameLineSide, contractsOf}
 use Rattle.sheets.specs.Sheets.{askNumbered}
 use borrow.Author.Tests.{eq-eqb, ne-eqb}
 use Rattle.records.proofs.OrderLaws.{ask-good, ask-bad, ask-none}
@@ -65,3 +66,10 @@ module _ (x : Leg) where
   pub contracts-over : (xs : List ℕ) (i : ℕ) → length xs / 32 ≤ i → contractsOf x (legsFrom xs i) ≡ 0
   unfolding contractsOf
   contracts-over xs i h = sum-over _ (legsFrom xs i) (legs-none xs i h)
+
+-- lines of one strike and one expiry are the same where the rest is
+pub line-rest : (a b : Leg) → a .strike ≡ b .strike → a .expiry ≡ b .expiry
+    → eqb (a .right) (b .right) && eqb (a .style) (b .style) && eqb (a .market) (b .market) && eqb (a .size) (b .size) && eqb (a .underlying) (b .underlying)
+    ≡ sameLine a b
+unfolding sameLine
+line-rest a b s e = rw (eq-eqb (a .strike) (b .strike) s, eq-eqb (a .expiry) (b .expiry) e, and-true, and-true)

@@ -10,16 +10,21 @@ use records::Fault;
 use records::Leg;
 use records::Refusal;
 
+// Most lines differ in their strike, so it is looked at first.
 fn same_line(a: Leg, b: Leg) -> bool
     ensures { λ r. ⌜ r ≡ sameLine a b ⌝ }
 {
+    if a.strike != b.strike {
+        return false;
+    }
+    if a.expiry != b.expiry {
+        return false;
+    }
     (a.right == b.right)
         & (a.style == b.style)
         & (a.market == b.market)
         & (a.size == b.size)
         & (a.underlying == b.underlying)
-        & (a.strike == b.strike)
-        & (a.expiry == b.expiry)
 }
 
 fn same_line_side(a: Leg, b: Leg) -> bool

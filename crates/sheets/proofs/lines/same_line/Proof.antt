@@ -1,12 +1,22 @@
-use native.Mathlib.Omega.{arith}
-use borrow.Author.Needs.{needs}
 use Rattle.sheets.specs.Lines.{sameLine}
+use Rattle.sheets.proofs.SearchLaws.{line-rest}
+use borrow.Author.Tests.{ne-eqb}
+use mathlib.Core.Bool.{and-false}
 use Rattle.sheets.proofs.lines.same_line.Statement.{statement}
 use Rattle.sheets.proofs.lines.same_line.Tie as tie
+use Rattle.sheets.proofs.lines.same_line.Reads as reads
+use Rattle.sheets.proofs.lines.same_line.Lts as lts
 
 returns : tie.Need-returns
 unfolding sameLine
-returns c = cc
+returns c = simp (ne-eqb _ _ (c .if1 .taken), and-false)
+
+returns-2 : tie.Need-returns-2
+unfolding sameLine
+returns-2 c = simp (ne-eqb _ _ (c .if2 .taken), and-false)
+
+returns-3 : tie.Need-returns-3
+returns-3 c = let s = c .before .before .before .before .before .before .before .before .before .before .before .before .before .before .before .before in line-rest (s .args .a) (s .args .b) (c .before .before .before .before .before .before .before .before .before .before .before .before .before .if1 .left) (c .before .before .before .before .before .before .before .before .before .before .if2 .left)
 
 pub same-line-spec : {M : Type 1} → statement M
-same-line-spec = tie.close (tie.spec returns)
+same-line-spec = tie.close (tie.spec returns returns-2 returns-3)
