@@ -10,12 +10,12 @@ ghost use Rattle.blocks.specs.File.{blocksOf, countAs, joined, tablesIn}
 ghost use Rattle.blocks.specs.Writer.{fieldsOf};
 ghost use Rattle.blocks.specs.Steps.{Sized, goodFront};
 use crate::form::BLOCK_BYTES;
-use crate::form::RECORD_BYTES;
 use crate::form::RECORDS_AT;
 use crate::form::kind_number;
 use crate::scanner::counted_as;
 use records::Fault;
 use records::Kind;
+use records::RECORD_BYTES;
 use records::Refusal;
 use records::good_record;
 

@@ -6,13 +6,12 @@ ghost use Rattle.blocks.specs.Block.{headOf, headFits, tailFits, formed}
 use crate::bytes::all_zero;
 use crate::bytes::equal;
 use records::Kind;
+use records::RECORD_BYTES;
 use records::u16_at;
 
 // Where things stand in a block of 512 bytes: the records, of 32 bytes each, from byte 16 on, bytes
 // 496 to 507 after the last of 15, and the checks after those.
 pub(crate) const BLOCK_BYTES: usize = 512;
-
-pub(crate) const RECORD_BYTES: usize = 32;
 
 pub(crate) const RECORDS_AT: usize = 16;
 

@@ -10,10 +10,10 @@ ghost use Rattle.blocks.specs.Steps.{judged};
 use crate::copier::copy_kind;
 use crate::fields::file_fields_fault;
 use crate::form::BLOCK_BYTES;
-use crate::form::RECORD_BYTES;
 use crate::scanner::scan;
 use records::Fault;
 use records::Kind;
+use records::RECORD_BYTES;
 use records::Refusal;
 
 // How many records there are of each kind.

@@ -11,11 +11,11 @@ ghost use Rattle.blocks.specs.Steps.{Small, nothingYet, grown, mayFollow
 use crate::checks::sums_agree;
 use crate::form::BLOCK_BYTES;
 use crate::form::FULL;
-use crate::form::RECORD_BYTES;
 use crate::form::well_formed;
 use crate::reader::Counts;
 use crate::reader::Reading;
 use records::Kind;
+use records::RECORD_BYTES;
 use records::Refusal;
 use records::whole_table;
 

@@ -5,6 +5,8 @@ use crate::dates::is_within;
 use crate::fields::u16_in;
 use crate::fields::u32_in;
 use crate::fields::u64_in;
+use crate::limits::MOST_MILLS;
+use crate::limits::RECORD_BYTES;
 
 pub struct Claim {
     pub group: u16,
@@ -16,7 +18,7 @@ pub struct Claim {
 pub fn claim_of(part: &[u8]) -> Claim
     ensures { λ r. ⌜ r ≡ claimOf (now (part .entry)) ⌝ }
 {
-    if 32 <= part.len() {
+    if RECORD_BYTES <= part.len() {
         return Claim {
             group: u16_in(part, 0),
             margin: u64_in(part, 8),
@@ -31,14 +33,14 @@ pub fn claim_of(part: &[u8]) -> Claim
 pub(crate) fn good_claim(part: &[u8]) -> bool
     ensures { λ r. ⌜ r ≡ goodClaim (now (part .entry)) ⌝ }
 {
-    if part.len() != 32 {
+    if part.len() != RECORD_BYTES {
         return false;
     }
     let claim = claim_of(part);
     is_within(1, 32, claim.group as u32)
         & (u16_in(part, 2) == 0)
         & (u32_in(part, 4) == 0)
-        & (claim.margin <= 2560000000000000000)
+        & (claim.margin <= MOST_MILLS)
         & (u64_in(part, 16) == 0)
         & (u64_in(part, 24) == 0)
 }

@@ -10,6 +10,7 @@ use crate::fields::u8_in;
 use crate::fields::u16_in;
 use crate::fields::u32_in;
 use crate::fields::u64_in;
+use crate::limits::RECORD_BYTES;
 
 pub struct Leg {
     pub group: u16,
@@ -53,7 +54,7 @@ fn fields_of(part: &[u8]) -> Leg
 pub fn leg_of(part: &[u8]) -> Leg
     ensures { λ r. ⌜ r ≡ legOf (now (part .entry)) ⌝ }
 {
-    if 32 <= part.len() {
+    if RECORD_BYTES <= part.len() {
         return fields_of(part);
     }
     Leg {
@@ -89,7 +90,7 @@ fn in_range(top: u16, leg: Leg) -> bool
 pub(crate) fn good_leg(top: u16, part: &[u8]) -> bool
     ensures { λ r. ⌜ r ≡ goodLeg top (now (part .entry)) ⌝ }
 {
-    if part.len() != 32 {
+    if part.len() != RECORD_BYTES {
         return false;
     }
     in_range(top, leg_of(part)) & (u64_in(part, 24) == 0)

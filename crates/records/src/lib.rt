@@ -5,6 +5,7 @@ mod counts;
 mod dates;
 mod fields;
 mod legs;
+mod limits;
 mod refusals;
 mod tables;
 
@@ -15,6 +16,10 @@ pub use counts::Units;
 pub use fields::u16_at;
 pub use legs::Leg;
 pub use legs::leg_of;
+pub use limits::MOST_CLAIMS;
+pub use limits::MOST_LEGS;
+pub use limits::MOST_MILLS;
+pub use limits::RECORD_BYTES;
 pub use refusals::Fault;
 pub use refusals::Refusal;
 pub use tables::Counted;

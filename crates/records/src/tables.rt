@@ -4,6 +4,9 @@ ghost use Rattle.records.specs.Order.{firstOf};
 ghost use Rattle.records.specs.Tables.{tableNumber, limitOf, goodRecord, wholeTable, fieldChecks, fieldsChecks, countedOf};
 use crate::claims::good_claim;
 use crate::legs::good_leg;
+use crate::limits::MOST_CLAIMS;
+use crate::limits::MOST_LEGS;
+use crate::limits::RECORD_BYTES;
 use crate::refusals::Fault;
 use crate::refusals::Refusal;
 
@@ -33,9 +36,9 @@ fn limit_of(kind: Kind) -> usize
     ensures { λ r. ⌜ r ≡ limitOf kind ⌝ }
 {
     match kind {
-        Kind::Holdings => 256,
-        Kind::Placement => 256,
-        Kind::Claims => 32,
+        Kind::Holdings => MOST_LEGS,
+        Kind::Placement => MOST_LEGS,
+        Kind::Claims => MOST_CLAIMS,
     }
 }
 
@@ -54,7 +57,7 @@ pub fn good_record(kind: Kind, part: &[u8]) -> bool
 pub fn whole_table(kind: Kind, length: usize) -> bool
     ensures { λ r. ⌜ r ≡ wholeTable kind length ⌝ }
 {
-    (length % 32 == 0) & (length / 32 <= limit_of(kind))
+    (length % RECORD_BYTES == 0) & (length / RECORD_BYTES <= limit_of(kind))
 }
 
 // The first record with a field out of range, as refusal 4. Each record is looked at where it
@@ -62,11 +65,11 @@ pub fn whole_table(kind: Kind, length: usize) -> bool
 pub fn field_fault(kind: Kind, table: &[u8]) -> Fault
     ensures { λ r. ⌜ r ≡ firstOf (fieldChecks kind (now (table .entry))) ⌝ }
 {
-    let n = table.len() / 32;
+    let n = table.len() / RECORD_BYTES;
     let mut i: usize = 0;
     while i < n {
-        let at = 32 * i;
-        let end = at + 32;
+        let at = RECORD_BYTES * i;
+        let end = at + RECORD_BYTES;
         if good_record(kind, &table[at..end]) {
             i += 1;
         } else {
@@ -99,7 +102,7 @@ pub fn check_table(kind: Kind, table: &[u8]) -> Counted
 {
     if whole_table(kind, table.len()) {
         match field_fault(kind, table) {
-            Fault::Nothing => Counted::Records(table.len() / 32),
+            Fault::Nothing => Counted::Records(table.len() / RECORD_BYTES),
             Fault::Is(refusal) => Counted::Refused(refusal),
         }
     } else {

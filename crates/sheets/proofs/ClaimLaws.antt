@@ -18,7 +18,7 @@ use Rattle.records.proofs.ChunkLaws.{getD-chunks, length-chunks, part-is, claim
 use Rattle.records.proofs.ListLaws.{sum-step, sum-over}
 use Rattle.records.proofs.TableLaws.{fields-good, claim-ranges}
 use Rattle.sheets.specs.Sheets.{claimFor, totalOf}
-use Rattle.sheets.specs.Verdicts.{bits, askListed}
+use Rattle.sheets.specs.Steps.{bits, askListed}
 use borrow.Author.Tests.{eq-eqb, ne-eqb}
 use lib.IntN.{ℤ, pos}
 

@@ -26,7 +26,7 @@ use Rattle.spreads.specs.Strikes.{marginOf}
 use Rattle.spreads.specs.declared.calls.Listed.the-variants.{Entries, Refused}
 use Rattle.spreads.proofs.Answers.{margin-at, length-margins}
 use Rattle.sheets.specs.Sheets.{claimFor, askNumbered, askNamed, askLines, askPlaced, askClaim, ruleChecks, tablesChecks}
-use Rattle.sheets.specs.Verdicts.{Tabled, askListed, listedChecks, groupsRule}
+use Rattle.sheets.specs.Steps.{Tabled, askListed, listedChecks, groupsRule}
 
 -- ---- what tables that passed 1 and 4 are
 

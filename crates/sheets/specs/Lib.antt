@@ -3,3 +3,4 @@ pub mod Sheets
 pub mod Verdicts
 pub mod Printed
 pub mod Demands
+pub mod Steps

@@ -8,6 +8,7 @@ ghost use Rattle.sheets.specs.Lines.{sameLine, sameLineSide, contractsOf
 ghost use Rattle.sheets.specs.Sheets.{askLines, askNamed, askPlaced};
 use records::Fault;
 use records::Leg;
+use records::RECORD_BYTES;
 use records::Refusal;
 
 // Most lines differ in their strike, so it is looked at first.
@@ -38,12 +39,12 @@ fn contracts_of(leg: Leg, table: &[u8]) -> u64
     requires { ⌜ length (now table) ≤ 8192 ⌝ }
     ensures { λ r. ⌜ r ≡ contractsOf leg (legsOf (now (table .entry))) ⌝ }
 {
-    let n = table.len() / 32;
+    let n = table.len() / RECORD_BYTES;
     let mut contracts: u64 = 0;
     let mut i: usize = 0;
     while i < n {
-        let at = 32 * i;
-        let end = at + 32;
+        let at = RECORD_BYTES * i;
+        let end = at + RECORD_BYTES;
         let other = records::leg_of(&table[at..end]);
         if same_line_side(leg, other) {
             contracts += other.contracts.number() as u64;
@@ -58,11 +59,11 @@ fn first_uneven(holdings: &[u8], placement: &[u8], table: &[u8], number: u8) -> 
     requires { ⌜ (length (now holdings) ≤ 8192) × (length (now placement) ≤ 8192) ⌝ }
     ensures { λ r. ⌜ r ≡ firstOf (askEach (evenAt (legsOf (now (holdings .entry))) (legsOf (now (placement .entry)))) 14 number 0 (legsOf (now (table .entry)))) ⌝ }
 {
-    let n = table.len() / 32;
+    let n = table.len() / RECORD_BYTES;
     let mut i: usize = 0;
     while i < n {
-        let at = 32 * i;
-        let end = at + 32;
+        let at = RECORD_BYTES * i;
+        let end = at + RECORD_BYTES;
         let leg = records::leg_of(&table[at..end]);
         if contracts_of(leg, holdings) == contracts_of(leg, placement) {
             i += 1;
@@ -92,11 +93,11 @@ pub(crate) fn lines_fault(holdings: &[u8], placement: &[u8]) -> Fault
 pub(crate) fn placed_fault(placement: &[u8]) -> Fault
     ensures { λ r. ⌜ r ≡ firstOf (askPlaced (legsOf (now (placement .entry)))) ⌝ }
 {
-    let n = placement.len() / 32;
+    let n = placement.len() / RECORD_BYTES;
     let mut i: usize = 0;
     while i < n {
-        let at = 32 * i;
-        let end = at + 32;
+        let at = RECORD_BYTES * i;
+        let end = at + RECORD_BYTES;
         let leg = records::leg_of(&placement[at..end]);
         if (leg.side == 2) & (leg.group == 0) {
             return Fault::Is(Refusal {

@@ -23,7 +23,8 @@ use Rattle.records.proofs.OrderLaws.{first-append, first-then, first-stop, clea
 use Rattle.records.proofs.PutLaws.{put-more, put-all, length-putAt}
 use Rattle.spreads.specs.Spreads.{groupOf}
 use Rattle.spreads.specs.Strikes.{strikesOf, marginOf}
-use Rattle.spreads.specs.Calls.{Placed, groupChecks, groupsChecks, listChecks, listedIn, worksheetCall, marginsFrom, marginsCall}
+use Rattle.spreads.specs.Calls.{groupChecks, groupsChecks, listChecks, worksheetCall, marginsFrom, marginsCall}
+use Rattle.spreads.specs.Steps.{Placed, listedIn}
 use Rattle.spreads.specs.declared.calls.Listed.{Listed}
 use Rattle.spreads.specs.declared.calls.Listed.the-variants.{Entries, Refused as Refused-listed}
 

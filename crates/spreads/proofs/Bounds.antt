@@ -16,7 +16,7 @@ use Rattle.records.proofs.TableLaws.{Ranges, units-small, placement-ranges, len
 use Rattle.spreads.specs.Prices.{intrinsic, value, longAt, shortAt, at, lossAt}
 use Rattle.spreads.specs.Strikes.{place, strikesOf, marginOf}
 use Rattle.spreads.specs.Spreads.{groupOf}
-use Rattle.spreads.specs.Calls.{Placed}
+use Rattle.spreads.specs.Steps.{Placed}
 
 -- ---- one leg
 

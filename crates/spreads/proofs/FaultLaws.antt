@@ -20,7 +20,7 @@ use Rattle.records.proofs.TableLaws.{Ranges, placement-ranges, units-small, who
 use Rattle.spreads.specs.Spreads.{groupOf, oneOf, noneDoubled, unitsIn, latestShort, earliestLong, never, spreadChecks}
 use Rattle.spreads.specs.Gathered.{withFirsts, withUnits, withExpiry, withLeg, noFacts, gathered}
 use Rattle.spreads.specs.Search.{firstPair, isFound}
-use Rattle.spreads.specs.Calls.{Placed, faultNumber, numberFault}
+use Rattle.spreads.specs.Steps.{Placed, faultNumber, numberFault}
 use Rattle.spreads.specs.declared.facts.Firsts.{Firsts}
 use Rattle.spreads.specs.declared.facts.Sides.{Sides}
 use Rattle.spreads.specs.declared.facts.Lives.{Lives}

@@ -14,7 +14,7 @@ use Rattle.records.specs.declared.legs.Leg.{Leg}
 use Rattle.records.proofs.TableLaws.{Ranges}
 use Rattle.spreads.specs.Prices.{intrinsic, value, longAt, shortAt, at, net, lossAt}
 use Rattle.spreads.specs.Spreads.{groupOf}
-use Rattle.spreads.specs.Calls.{Placed, withWorth, worthAt}
+use Rattle.spreads.specs.Steps.{Placed, withWorth, worthAt}
 use Rattle.spreads.specs.declared.prices.Worth.{Worth}
 use Rattle.spreads.proofs.Bounds.{group-ranges, group-few, sides-small, worth-small}
 use Rattle.spreads.proofs.Rest.{rest, rest-all, rest-none, rest-in, rest-out}

@@ -1,63 +1,23 @@
 -- What the calls of one group answer, and what they leave in the slices that they are lent.
-use mathlib.Core.Path.{_≡_}
-use mathlib.Core.Bool.{Bool, true, false, not, _&&_, cond}
+use mathlib.Core.Bool.{_&&_}
 use mathlib.Core.List.{List, [], _∷_, _++_}
-use Prim.Native.Nat.{ℕ, zero, suc, _+_, _*_}
-use lib.Dec.{eqb, leb, ltb}
+use Prim.Native.Nat.{ℕ, zero, suc, _+_}
+use lib.Dec.{leb}
 use lib.IntN.{ℤ, pos}
 use lib.ListN.{length}
-use Rattle.records.specs.Lists.{only}
-use Rattle.records.specs.Legs.{isLong, isShort, units}
-use Rattle.records.specs.Order.{Check, ask, firstOf, refuse, groups}
-use Rattle.records.specs.Tables.{wholeTable, fieldChecks, tableChecks, legsOf}
+use Rattle.records.specs.Order.{Check, ask, firstOf, groups}
+use Rattle.records.specs.Tables.{tableChecks, legsOf}
 use Rattle.records.specs.Written.{putAt}
 use Rattle.records.specs.declared.legs.Leg.{Leg}
 use Rattle.records.specs.declared.refusals.Fault.{Fault}
 use Rattle.records.specs.declared.refusals.Fault.the-variants.{Nothing, Is}
 use Rattle.records.specs.declared.tables.Kind.the-variants.{Placement}
-use Rattle.spreads.specs.Prices.{intrinsic, longAt, shortAt, at}
-use Rattle.spreads.specs.Strikes.{strikesOf, marginOf, netsOf}
+use Rattle.spreads.specs.Strikes.{strikesOf, marginOf}
 use Rattle.spreads.specs.Spreads.{groupOf, spreadChecks}
-use Rattle.spreads.specs.declared.facts.Facts.{Facts}
-use Rattle.spreads.specs.declared.prices.Worth.{Worth}
 use Rattle.spreads.specs.declared.calls.Due.{Due}
 use Rattle.spreads.specs.declared.calls.Due.the-variants.{Mills, Refused as Refused-due}
 use Rattle.spreads.specs.declared.calls.Listed.{Listed}
 use Rattle.spreads.specs.declared.calls.Listed.the-variants.{Entries, Refused as Refused-listed}
-
--- a placement table that has passed 1 and 4
-pub record Placed (xs : List ℕ) : Type 0 where
-  pub whole : wholeTable Placement (length xs) ≡ true
-  pub fields : firstOf (fieldChecks Placement xs) ≡ Nothing
-
--- ---- inside: the rule's number from the facts, and the two sums at a price
-
-unfoldable pub faultNumber : Bool → Facts → Bool → ℕ
-faultNumber inReach f doubled =
-    cond (inReach && f .firsts .some)
-    (cond (f .firsts .underlyings) 7
-    (cond (f .firsts .styles) 8
-    (cond (f .firsts .markets) 9
-    (cond doubled 10
-    (cond (eqb (f .calls .long .0) (f .calls .short .0))
-    (cond (eqb (f .puts .long .0) (f .puts .short .0))
-    (cond (ltb (f .lives .earliest) (f .lives .latest)) 13 0)
-    12)
-    11)))))
-    6
-
-abbrev pub numberFault : ℕ → ℕ → Fault
-numberFault number g = cond (eqb number 0) Nothing (Is (refuse number 2 g))
-
-unfoldable pub withWorth : ℕ → Worth → Leg → Worth
-withWorth price w l =
-    record {
-      long = w .long + only (isLong l) (units l * intrinsic 1 price l);
-      short = w .short + only (isShort l) (units l * intrinsic 1 price l);
-    }
-
-unfoldable pub worthAt : ℕ → List Leg → Worth
-worthAt price legs = record { long = longAt 1 (at price) legs; short = shortAt 1 (at price) legs }
 
 -- ---- 'Margin and worksheet calls take a placement table and g: 1, 4 over the whole table, 6 to 13, and 17 for the worksheet.'
 
@@ -79,9 +39,6 @@ listChecks legs roomStrikes roomNets =
 abbrev pub listedAnswer : Fault → ℕ → Listed
 listedAnswer Nothing n = Entries n
 listedAnswer (Is r) n = Refused-listed r
-
-unfoldable pub listedIn : List Leg → ℕ → ℕ → Listed
-listedIn legs roomStrikes roomNets = listedAnswer (firstOf (listChecks legs roomStrikes roomNets)) (length (strikesOf legs))
 
 unfoldable pub worksheetCall : List ℕ → ℕ → ℕ → ℕ → Listed
 worksheetCall xs g roomStrikes roomNets =

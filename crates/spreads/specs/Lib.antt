@@ -4,3 +4,4 @@ pub mod Spreads
 pub mod Gathered
 pub mod Search
 pub mod Calls
+pub mod Steps

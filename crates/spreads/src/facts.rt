@@ -4,6 +4,7 @@ ghost use Rattle.records.specs.Tables.{legsOf};
 ghost use Rattle.spreads.specs.Spreads.{groupOf};
 ghost use Rattle.spreads.specs.Gathered.{noFacts, withFirsts, withUnits, withExpiry, withLeg, gathered};
 use records::Leg;
+use records::RECORD_BYTES;
 use records::Units;
 
 // Whether there is a leg; what the first one says that all others must share; whether one differs.
@@ -142,12 +143,12 @@ impl Facts {
 pub(crate) fn gather(placement: &[u8], g: usize) -> Facts
     ensures { λ r. ⌜ r ≡ gathered (groupOf g (legsOf (now (placement .entry)))) ⌝ }
 {
-    let n = placement.len() / 32;
+    let n = placement.len() / RECORD_BYTES;
     let mut facts = Facts::none();
     let mut i: usize = 0;
     while i < n {
-        let at = 32 * i;
-        let end = at + 32;
+        let at = RECORD_BYTES * i;
+        let end = at + RECORD_BYTES;
         let leg = records::leg_of(&placement[at..end]);
         if leg.group as usize == g {
             facts = facts.with_leg(leg);

@@ -5,6 +5,7 @@ ghost use lib.ListN.{length};
 ghost use Rattle.records.specs.Tables.{legsOf};
 ghost use Rattle.spreads.specs.Search.{clash, firstPair, isFound};
 use records::Leg;
+use records::RECORD_BYTES;
 
 // The places of two legs of one series on both sides: the later one, and the earlier one.
 pub enum Pair {
@@ -25,22 +26,22 @@ fn is_clash(g: usize, a: Leg, b: Leg) -> bool
 fn first_doubled(placement: &[u8], g: usize) -> Pair
     ensures { λ r. ⌜ r ≡ firstPair g (now (placement .entry)) 0 (length (now (placement .entry)) / 32) ⌝ }
 {
-    let n = placement.len() / 32;
+    let n = placement.len() / RECORD_BYTES;
     let mut j: usize = 0;
     'pairs: loop {
         if n <= j {
             break 'pairs Pair::Nothing;
         }
-        let at = 32 * j;
-        let end = at + 32;
+        let at = RECORD_BYTES * j;
+        let end = at + RECORD_BYTES;
         let later = records::leg_of(&placement[at..end]);
         let mut i: usize = 0;
         if later.group as usize != g {
             i = j;
         }
         while i < j {
-            let from = 32 * i;
-            let to = from + 32;
+            let from = RECORD_BYTES * i;
+            let to = from + RECORD_BYTES;
             let earlier = records::leg_of(&placement[from..to]);
             if is_clash(g, later, earlier) {
                 break 'pairs Pair::At(j, i);

@@ -6,8 +6,9 @@ ghost use Rattle.records.specs.Legs.{units};
 ghost use Rattle.records.specs.Tables.{legsOf};
 ghost use Rattle.spreads.specs.Prices.{intrinsic};
 ghost use Rattle.spreads.specs.Spreads.{groupOf};
-ghost use Rattle.spreads.specs.Calls.{Placed, withWorth, worthAt};
+ghost use Rattle.spreads.specs.Steps.{Placed, withWorth, worthAt};
 use records::Leg;
+use records::RECORD_BYTES;
 
 // In mills.
 pub struct Worth {
@@ -73,12 +74,12 @@ pub(crate) fn worth_at(placement: &[u8], g: usize, price: u32) -> Worth
     requires { ⌜ price < 100000000 ⌝ }
     ensures { λ r. ⌜ r ≡ worthAt price (groupOf g (legsOf (now (placement .entry)))) ⌝ }
 {
-    let n = placement.len() / 32;
+    let n = placement.len() / RECORD_BYTES;
     let mut worth = Worth { long: 0, short: 0 };
     let mut i: usize = 0;
     while i < n {
-        let at = 32 * i;
-        let end = at + 32;
+        let at = RECORD_BYTES * i;
+        let end = at + RECORD_BYTES;
         let leg = records::leg_of(&placement[at..end]);
         if leg.group as usize == g {
             worth = worth.with_leg(leg, price);

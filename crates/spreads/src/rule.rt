@@ -4,7 +4,7 @@ ghost use Rattle.records.specs.Order.{firstOf, refuse};
 ghost use Rattle.records.specs.Tables.{legsOf};
 ghost use Rattle.records.specs.declared.refusals.Fault.the-variants.{Nothing, Is};
 ghost use Rattle.spreads.specs.Spreads.{groupOf, spreadChecks};
-ghost use Rattle.spreads.specs.Calls.{Placed, faultNumber, numberFault};
+ghost use Rattle.spreads.specs.Steps.{Placed, faultNumber, numberFault};
 use crate::facts::Facts;
 use crate::facts::gather;
 use crate::pairs::is_doubled;

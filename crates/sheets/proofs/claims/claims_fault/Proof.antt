@@ -3,7 +3,7 @@ use borrow.Author.Needs.{needs}
 use Rattle.records.proofs.OrderLaws.{groups-none, groups-more, groups-stop}
 use Rattle.sheets.proofs.ClaimLaws.{claim-at, claim-small, listed-good, listed-bad}
 use Rattle.records.specs.declared.refusals.Fault.the-variants.{Nothing}
-use Rattle.sheets.specs.Verdicts.{askListed}
+use Rattle.sheets.specs.Steps.{askListed}
 use Rattle.records.specs.Tables.{claimsOf}
 use Rattle.records.specs.Order.{firstOf, groups}
 use denote.Ref.{now}

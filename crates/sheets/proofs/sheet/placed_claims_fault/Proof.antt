@@ -1,4 +1,4 @@
-use Rattle.sheets.specs.Verdicts.{listedChecks}
+use Rattle.sheets.specs.Steps.{listedChecks}
 use Rattle.records.proofs.TableLaws.{length-claims}
 use Rattle.records.proofs.OrderLaws.{first-append}
 use mathlib.Core.Path.{_≡_, refl, sym, ap, _∙_}

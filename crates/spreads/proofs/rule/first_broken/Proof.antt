@@ -4,7 +4,7 @@ use mathlib.Core.Bool.{Bool, _&&_, cond}
 use lib.Dec.{eqb, ltb}
 use borrow.Author.Needs.{needs}
 use borrow.Author.Tests.{eq-eqb, ne-eqb, lt-ltb, le-ltb, not-true, not-false}
-use Rattle.spreads.specs.Calls.{faultNumber}
+use Rattle.spreads.specs.Steps.{faultNumber}
 use Rattle.spreads.specs.declared.facts.Facts.{Facts}
 use Rattle.spreads.proofs.rule.first_broken.Statement.{statement}
 use Rattle.spreads.proofs.rule.first_broken.Tie as tie

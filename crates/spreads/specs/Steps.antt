@@ -1,0 +1,62 @@
+-- What the steps of the calls compute, for the contracts of functions that are not public.
+use mathlib.Core.Path.{_≡_}
+use mathlib.Core.Bool.{Bool, true, _&&_, cond}
+use mathlib.Core.List.{List}
+use Prim.Native.Nat.{ℕ, _+_, _*_}
+use lib.Dec.{eqb, ltb}
+use lib.ListN.{length}
+use Rattle.records.specs.Lists.{only}
+use Rattle.records.specs.Legs.{isLong, isShort, units}
+use Rattle.records.specs.Order.{firstOf, refuse}
+use Rattle.records.specs.Tables.{wholeTable, fieldChecks}
+use Rattle.records.specs.declared.legs.Leg.{Leg}
+use Rattle.records.specs.declared.refusals.Fault.{Fault}
+use Rattle.records.specs.declared.refusals.Fault.the-variants.{Nothing, Is}
+use Rattle.records.specs.declared.tables.Kind.the-variants.{Placement}
+use Rattle.spreads.specs.Prices.{intrinsic, longAt, shortAt, at}
+use Rattle.spreads.specs.Strikes.{strikesOf}
+use Rattle.spreads.specs.Calls.{listChecks, listedAnswer}
+use Rattle.spreads.specs.declared.facts.Facts.{Facts}
+use Rattle.spreads.specs.declared.prices.Worth.{Worth}
+use Rattle.spreads.specs.declared.calls.Listed.{Listed}
+
+-- a placement table that has passed 1 and 4
+pub record Placed (xs : List ℕ) : Type 0 where
+  pub whole : wholeTable Placement (length xs) ≡ true
+  pub fields : firstOf (fieldChecks Placement xs) ≡ Nothing
+
+-- ---- the rule's number from the facts: 0 where none is broken
+
+unfoldable pub faultNumber : Bool → Facts → Bool → ℕ
+faultNumber inReach f doubled =
+    cond (inReach && f .firsts .some)
+    (cond (f .firsts .underlyings) 7
+    (cond (f .firsts .styles) 8
+    (cond (f .firsts .markets) 9
+    (cond doubled 10
+    (cond (eqb (f .calls .long .0) (f .calls .short .0))
+    (cond (eqb (f .puts .long .0) (f .puts .short .0))
+    (cond (ltb (f .lives .earliest) (f .lives .latest)) 13 0)
+    12)
+    11)))))
+    6
+
+abbrev pub numberFault : ℕ → ℕ → Fault
+numberFault number g = cond (eqb number 0) Nothing (Is (refuse number 2 g))
+
+-- ---- the two sums at a price, one leg more and all of them
+
+unfoldable pub withWorth : ℕ → Worth → Leg → Worth
+withWorth price w l =
+    record {
+      long = w .long + only (isLong l) (units l * intrinsic 1 price l);
+      short = w .short + only (isShort l) (units l * intrinsic 1 price l);
+    }
+
+unfoldable pub worthAt : ℕ → List Leg → Worth
+worthAt price legs = record { long = longAt 1 (at price) legs; short = shortAt 1 (at price) legs }
+
+-- ---- the worksheet of a group that is a spread
+
+unfoldable pub listedIn : List Leg → ℕ → ℕ → Listed
+listedIn legs roomStrikes roomNets = listedAnswer (firstOf (listChecks legs roomStrikes roomNets)) (length (strikesOf legs))
