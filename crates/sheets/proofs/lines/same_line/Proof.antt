@@ -4,8 +4,6 @@ use borrow.Author.Tests.{ne-eqb}
 use mathlib.Core.Bool.{and-false}
 use Rattle.sheets.proofs.lines.same_line.Statement.{statement}
 use Rattle.sheets.proofs.lines.same_line.Tie as tie
-use Rattle.sheets.proofs.lines.same_line.Reads as reads
-use Rattle.sheets.proofs.lines.same_line.Lts as lts
 
 returns : tie.Need-returns
 unfolding sameLine
