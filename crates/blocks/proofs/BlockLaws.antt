@@ -4,12 +4,10 @@ use mathlib.Core.Bool.{true, and-eq-true-iff}
 use mathlib.Core.List.{List, [], _++_, append-nil}
 use Prim.Native.Nat.{ℕ, zero, _+_, _-_, _/_, _≤_}
 use native.Mathlib.Omega.{arith}
-use lib.Dec.{leb}
 use lib.ListN.{length, take, drop, getD, length-append, length-replicate, drop-of-length-le}
 use lib.Seq.{take-at}
-use borrow.Author.Tests.{eqb-true, leb-true}
+use borrow.Author.Tests.{eqb-true}
 use Rattle.records.specs.Bytes.{leAt}
-use Rattle.records.specs.Dates.{within}
 use Rattle.records.specs.Written.{putAt}
 use Rattle.records.proofs.PutLaws.{put-after}
 use Rattle.records.proofs.TableLaws.{within-true}

@@ -1,7 +1,7 @@
 -- Laws on lists, their parts and what is written into them, over any length and size.
 use mathlib.Core.Path.{_≡_, refl, sym, ap, _∙_}
 use mathlib.Core.Logic.{_⊎_, inl, inr, ⊎-elim}
-use mathlib.Core.List.{List, [], _∷_, _++_, append-assoc}
+use mathlib.Core.List.{List, [], _∷_, _++_}
 use Prim.Native.Nat.{ℕ, zero, suc, _+_, _-_, _*_, _≤_, _<_, min, zero-le, suc-le-suc}
 use native.Mathlib.Nat.{mul-zero, mul-suc, add-comm, suc-add, zero-add}
 use native.Mathlib.Omega.{arith}
@@ -9,8 +9,6 @@ use lib.ListN.{length, take, drop, length-take, length-drop}
 use lib.Seq.{take-all, take-add, take-take, drop-at, drop-drop, take-append-le, drop-append-le, length-take-le}
 use Rattle.records.specs.Lists.{All}
 use Rattle.records.specs.Chunks.{chunks, chunkAt}
-use Rattle.records.specs.Written.{putAt}
-use Rattle.records.proofs.PutLaws.{put-next}
 
 pub le-or-lt : (a b : ℕ) → (a ≤ b) ⊎ (b < a)
 le-or-lt zero b = inl zero-le

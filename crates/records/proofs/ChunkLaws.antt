@@ -1,12 +1,12 @@
 -- A list in parts: the laws of a loop that begins with all of them, takes part i off at each turn, and ends with none.
 use Prim.Native.Nat.{ℕ, zero, suc, _+_, _-_, _*_, _/_, _≤_, _<_}
 use mathlib.Core.Path.{_≡_, refl, ap}
-use mathlib.Core.List.{List, [], _∷_, map}
+use mathlib.Core.List.{List, [], _∷_}
 use lib.ListN.{length, getD, take, drop}
 use lib.Seq.{drop-drop}
 use native.Mathlib.Nat.{mul-add, mul-one, mul-zero, sub-zero, add-sub-cancel-left, not-suc-le-zero, le-of-suc-le-suc, mul-suc, add-comm}
 use native.Mathlib.Omega.{arith}
-use Rattle.records.specs.Chunks.{chunks, chunkAt, chunksFrom, recordsOf, recordsFrom}
+use Rattle.records.specs.Chunks.{chunks, chunkAt, chunksFrom}
 use Rattle.records.specs.Legs.{legOf}
 use Rattle.records.specs.Claims.{claimOf}
 use Rattle.records.specs.Tables.{legsOf, legsFrom, claimsOf, claimsFrom}

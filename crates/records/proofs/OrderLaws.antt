@@ -7,7 +7,7 @@ use native.Mathlib.Decide.{ℕ-discrete}
 use native.Mathlib.Numerals.{add-one}
 use native.Mathlib.Omega.{arith}
 use Rattle.records.specs.Lists.{All}
-use Rattle.records.specs.Order.{Check, ask, refuse, firstOf, askEach, groups, inOrder, orElse}
+use Rattle.records.specs.Order.{Check, refuse, firstOf, askEach, groups, inOrder, orElse}
 use Rattle.records.specs.declared.refusals.Refusal.{Refusal}
 use Rattle.records.specs.declared.refusals.Fault.{Fault}
 use Rattle.records.specs.declared.refusals.Fault.the-variants.{Nothing, Is}

@@ -1,7 +1,7 @@
 -- A table that passed its check: how long it is, and the bounds of each field of each leg and claim.
-use Prim.Native.Nat.{ℕ, _+_, _*_, _/_, _%_, _≤_, _<_}
-use mathlib.Core.Path.{_≡_, refl}
-use mathlib.Core.Bool.{Bool, true, false, _&&_, and-eq-true-iff}
+use Prim.Native.Nat.{ℕ, _/_, _%_, _≤_}
+use mathlib.Core.Path.{_≡_}
+use mathlib.Core.Bool.{true, _&&_, and-eq-true-iff}
 use mathlib.Core.List.{List, [], _∷_, map}
 use lib.Dec.{eqb, leb}
 use lib.ListN.{length}
@@ -10,12 +10,12 @@ use native.Mathlib.Nat.{mul-le-mul}
 use native.Mathlib.Omega.{arith}
 use Rattle.records.specs.Lists.{All}
 use Rattle.records.specs.Bytes.{leAt}
-use Rattle.records.specs.Chunks.{recordsOf, chunks}
+use Rattle.records.specs.Chunks.{recordsOf}
 use Rattle.records.specs.Dates.{within, realDate}
 use Rattle.records.specs.Legs.{legOf, inRange, goodLeg, units}
 use Rattle.records.specs.Claims.{claimOf, goodClaim}
-use Rattle.records.specs.Order.{ask, firstOf}
-use Rattle.records.specs.Tables.{goodRecord, limitOf, tableNumber, wholeTable, fieldChecks, tableChecks, legsOf, claimsOf}
+use Rattle.records.specs.Order.{firstOf}
+use Rattle.records.specs.Tables.{goodRecord, limitOf, tableNumber, wholeTable, fieldChecks, legsOf, claimsOf}
 use Rattle.records.specs.declared.legs.Leg.{Leg}
 use Rattle.records.specs.declared.claims.Claim.{Claim}
 use Rattle.records.specs.declared.refusals.Fault.the-variants.{Nothing}

@@ -2,7 +2,7 @@
 use mathlib.Core.Path.{_≡_, refl, ap}
 use mathlib.Core.Logic.{_↔_}
 use mathlib.Core.List.{List}
-use Prim.Native.Nat.{ℕ, _+_, _*_, _≤_, _<_}
+use Prim.Native.Nat.{ℕ, _≤_, _<_}
 use native.Mathlib.Omega.{arith}
 use lib.IntN.{ℤ, pos}
 use lib.ListN.{length}
@@ -16,7 +16,7 @@ use Rattle.records.specs.declared.refusals.Fault.the-variants.{Nothing, Is}
 use Rattle.records.specs.declared.tables.Kind.the-variants.{Placement}
 use Rattle.records.proofs.OrderLaws.{clear, unclear}
 use Rattle.records.proofs.TableLaws.{Ranges, placement-ranges, length-legs, whole}
-use Rattle.spreads.specs.Prices.{longAt, shortAt, at}
+use Rattle.spreads.specs.Prices.{at}
 use Rattle.spreads.specs.Spreads.{groupOf}
 use Rattle.sheets.specs.Demands.{Covers, Sound, Kept, AcceptedJust, AcceptedCovers, AcceptedLeast, AcceptedLimit, FileJust, FileCovers}
 use Rattle.sheets.specs.Sheets.{claimFor, totalOf, Accepted, ruleChecks, sheetChecks}

@@ -1,11 +1,10 @@
 -- The verdict on a file, by the reader's answer for tables that have room for every sheet.
-use Prim.Native.Nat.{ℕ, _+_, _*_, _≤_}
-use mathlib.Core.Path.{_≡_, refl, sym, ap, _∙_}
+use Prim.Native.Nat.{ℕ, _*_, _≤_}
+use mathlib.Core.Path.{_≡_, refl, sym, _∙_}
 use mathlib.Core.List.{List}
 use native.Mathlib.Omega.{arith}
 use lib.ListN.{length, take}
 use Rattle.records.specs.Order.{firstOf}
-use Rattle.records.specs.Written.{putAt}
 use Rattle.records.specs.declared.refusals.Refusal.{Refusal}
 use Rattle.records.specs.declared.refusals.Fault.{Fault}
 use Rattle.records.specs.declared.refusals.Fault.the-variants.{Nothing, Is}
@@ -14,12 +13,10 @@ use Rattle.records.proofs.PutLaws.{length-putAt}
 use Rattle.blocks.specs.File.{tablesIn}
 use Rattle.blocks.specs.Reader.{readChecks, countsOf, reading, readOf, leaves}
 use Rattle.blocks.specs.declared.reader.Counts.{Counts}
-use Rattle.blocks.specs.declared.reader.Reading.{Reading}
 use Rattle.blocks.specs.declared.reader.Reading.the-variants.{Read, Refused as Refused-reading}
 use Rattle.blocks.proofs.ReadLaws.{Bytes, read-bytes}
 use Rattle.blocks.proofs.TablesFit.{read-roomy, put-front}
-use Rattle.sheets.specs.Verdicts.{verdictOf, afterReading, fileVerdict}
-use Rattle.sheets.specs.declared.sheet.Verdict.{Verdict}
+use Rattle.sheets.specs.Verdicts.{verdictOf, fileVerdict}
 use Rattle.sheets.specs.declared.sheet.Verdict.the-variants.{Refused}
 
 reading-refused : (f : Fault) (n : Counts) (r : Refusal) → reading f n ≡ Refused-reading r → f ≡ Is r

@@ -2,12 +2,9 @@
 use mathlib.Core.Path.{_≡_, refl, ap, _∙_}
 use mathlib.Core.List.{List, [], _∷_, _++_, append-assoc}
 use Prim.Native.Nat.{ℕ, _+_, _≤_, _<_}
-use native.Mathlib.Nat.{add-assoc}
 use native.Mathlib.Omega.{arith}
 use lib.IntN.{ℤ}
-use lib.ListN.{length, take, set, length-append}
-use lib.Seq.{length-take-le}
-use Rattle.records.specs.Written.{putAt}
+use lib.ListN.{length, set, length-append}
 use Rattle.records.specs.declared.refusals.Refusal.{Refusal}
 use Rattle.records.proofs.PutLaws.{put-none, put-more, put-put}
 use Rattle.sheets.specs.Printed.{Wrote, acceptWord, refuseWord, space, newline, decimalOf, amountOf, acceptLine, refuseLine}

@@ -1,16 +1,14 @@
 -- A search through the records of a table, as a loop over 32-byte parts sees it.
 use Prim.Native.Nat.{ℕ, _+_, _-_, _*_, _/_, _≤_, _<_}
-use mathlib.Core.Path.{_≡_, refl, sym, _∙_, ap}
+use mathlib.Core.Path.{_≡_, sym, _∙_}
 use mathlib.Core.Bool.{Bool, true, false, _&&_, and-true}
 use mathlib.Core.List.{List, [], _∷_}
 use lib.Dec.{eqb}
 use lib.ListN.{length, take, drop}
-use Rattle.records.specs.Chunks.{chunkAt}
 use Rattle.records.specs.Legs.{legOf}
 use Rattle.records.specs.Order.{firstOf, askEach, refuse}
-use Rattle.records.specs.Claims.{claimOf}
 use Rattle.records.specs.Lists.{only}
-use Rattle.records.specs.Tables.{legsOf, legsFrom, claimsOf, claimsFrom}
+use Rattle.records.specs.Tables.{legsOf, legsFrom}
 use Rattle.records.specs.declared.claims.Claim.{Claim}
 use Rattle.records.specs.declared.legs.Leg.{Leg}
 use Rattle.records.specs.declared.refusals.Fault.the-variants.{Nothing, Is}

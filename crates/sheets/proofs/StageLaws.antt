@@ -1,15 +1,13 @@
 -- The stages of the check of a sheet: what each asks of the next, and what the margins' call says of them.
 use Prim.Native.Nat.{ℕ, _+_, _-_, _/_, _≤_, _<_}
 use mathlib.Core.Path.{_≡_, refl, sym, ap, _∙_}
-use mathlib.Core.Bool.{true, _&&_, and-eq-true-iff}
-use mathlib.Core.List.{List, [], _∷_, _++_, append-nil}
+use mathlib.Core.List.{List, _++_, append-nil}
 use native.Mathlib.Omega.{arith}
 use borrow.Author.Tests.{le-leb}
-use lib.Dec.{leb}
 use lib.IntN.{ℤ, pos}
 use lib.ListN.{length, getD, drop, List·getD-append}
-use Rattle.records.specs.Order.{Check, ask, firstOf, groups, inOrder, orElse}
-use Rattle.records.specs.Tables.{fieldsChecks, wholeTable, fieldChecks, tableChecks, legsOf, claimsOf}
+use Rattle.records.specs.Order.{firstOf, groups, inOrder, orElse}
+use Rattle.records.specs.Tables.{fieldChecks, tableChecks, legsOf, claimsOf}
 use Rattle.records.specs.Written.{putAt}
 use Rattle.records.specs.declared.claims.Claim.{Claim}
 use Rattle.records.specs.declared.legs.Leg.{Leg}
@@ -17,7 +15,7 @@ use Rattle.records.specs.declared.refusals.Refusal.{Refusal}
 use Rattle.records.specs.declared.refusals.Fault.{Fault}
 use Rattle.records.specs.declared.refusals.Fault.the-variants.{Nothing, Is}
 use Rattle.records.specs.declared.tables.Kind.the-variants.{Holdings, Placement, Claims}
-use Rattle.records.proofs.OrderLaws.{Pass, clear, unclear, pass-left, pass-right, first-append, first-then, groups-same}
+use Rattle.records.proofs.OrderLaws.{clear, unclear, first-append, first-then, groups-same}
 use Rattle.records.proofs.PutLaws.{length-putAt}
 use Rattle.records.proofs.TableLaws.{whole, length-claims}
 use Rattle.spreads.specs.Calls.{groupsChecks, listedAnswer, marginsCall, marginsFrom}
@@ -25,7 +23,8 @@ use Rattle.spreads.specs.Spreads.{groupOf, spreadChecks}
 use Rattle.spreads.specs.Strikes.{marginOf}
 use Rattle.spreads.specs.declared.calls.Listed.the-variants.{Entries, Refused}
 use Rattle.spreads.proofs.Answers.{margin-at, length-margins}
-use Rattle.sheets.specs.Sheets.{claimFor, askNumbered, askNamed, askLines, askPlaced, askClaim, ruleChecks, tablesChecks}
+use Rattle.sheets.proofs.Judged.{pass-tables, fields-pass}
+use Rattle.sheets.specs.Sheets.{askNumbered, askNamed, askLines, askPlaced, askClaim, ruleChecks}
 use Rattle.sheets.specs.Steps.{Tabled, askListed, listedChecks, groupsRule}
 
 -- ---- what tables that passed 1 and 4 are
@@ -38,18 +37,15 @@ pub record Facts (h p c : List ℕ) : Type 0 where
   pub fields : firstOf (fieldChecks Claims c) ≡ Nothing
 
 pub tabled-facts : (h p c : List ℕ) → Tabled h p c → Facts h p c
-unfolding tablesChecks fieldsChecks tableChecks
+unfolding tableChecks
 tabled-facts h p c t =
-    let a = clear _ (t .passed) in
-    let w = and-eq-true-iff (wholeTable Holdings (length h) && wholeTable Placement (length p)) (wholeTable Claims (length c)) .0 (a .0) in
-    let v = and-eq-true-iff (wholeTable Holdings (length h)) (wholeTable Placement (length p)) .0 (w .0) in
-    let rest = pass-right (fieldChecks Holdings h) (fieldChecks Placement p ++ fieldChecks Claims c) (a .1) in
+    let s = pass-tables h p c (clear _ (t .passed)) in
     record {
-      holdings = omega (arith, whole Holdings (length h) (v .0));
-      placement = omega (arith, whole Placement (length p) (v .1));
-      claims = whole Claims (length c) (w .1) .1;
-      placed = unclear _ (v .1, pass-left (fieldChecks Placement p) (fieldChecks Claims c) rest);
-      fields = unclear _ (pass-right (fieldChecks Placement p) (fieldChecks Claims c) rest);
+      holdings = omega (arith, whole Holdings (length h) (s .0 .whole));
+      placement = omega (arith, whole Placement (length p) (s .1 .whole));
+      claims = whole Claims (length c) (s .2 .whole) .1;
+      placed = unclear _ (s .1 .whole, fields-pass Placement p (s .1 .fields));
+      fields = unclear _ (fields-pass Claims c (s .2 .fields));
     }
 
 -- ---- the stages one after the other

@@ -1,7 +1,7 @@
 -- What the check of a sheet, and of a file, answers.
 use mathlib.Core.List.{List}
 use Prim.Native.Nat.{ℕ}
-use lib.IntN.{ℤ, pos}
+use lib.IntN.{pos}
 use lib.ListN.{length}
 use Rattle.records.specs.Order.{firstOf}
 use Rattle.records.specs.Tables.{claimsOf}

@@ -5,7 +5,7 @@ ghost use lib.ListN.{length};
 ghost use Rattle.records.specs.Order.{firstOf, askEach};
 ghost use Rattle.records.specs.Tables.{legsOf};
 ghost use Rattle.sheets.specs.Lines.{sameLine, sameLineSide, contractsOf, evenAt};
-ghost use Rattle.sheets.specs.Sheets.{askLines, askNamed, askPlaced};
+ghost use Rattle.sheets.specs.Sheets.{askLines, askPlaced};
 use records::Fault;
 use records::Leg;
 use records::RECORD_BYTES;

@@ -2,7 +2,6 @@
 ghost use mathlib.Core.Path.{_≡_};
 ghost use Prim.Native.Nat.{_/_};
 ghost use lib.ListN.{length};
-ghost use Rattle.records.specs.Tables.{legsOf};
 ghost use Rattle.spreads.specs.Search.{clash, firstPair, isFound};
 use records::Leg;
 use records::RECORD_BYTES;

@@ -1,10 +1,10 @@
 // Refusals 6 to 13 of one group, in number order.
 ghost use mathlib.Core.Path.{_≡_};
-ghost use Rattle.records.specs.Order.{firstOf, refuse};
+ghost use Rattle.records.specs.Order.{firstOf};
 ghost use Rattle.records.specs.Tables.{legsOf};
 ghost use Rattle.records.specs.declared.refusals.Fault.the-variants.{Nothing, Is};
 ghost use Rattle.spreads.specs.Spreads.{groupOf, spreadChecks};
-ghost use Rattle.spreads.specs.Steps.{Placed, faultNumber, numberFault};
+ghost use Rattle.spreads.specs.Steps.{Placed, faultNumber};
 use crate::facts::Facts;
 use crate::facts::gather;
 use crate::pairs::is_doubled;

@@ -2,7 +2,6 @@ use Rattle.records.specs.Tables.{fieldsChecks}
 use mathlib.Core.Path.{sym, _∙_}
 use Rattle.records.proofs.OrderLaws.{first-append}
 use Rattle.blocks.specs.File.{tablesIn}
-use Rattle.blocks.specs.Writer.{fieldsOf}
 use borrow.Author.Needs.{needs}
 use Rattle.blocks.proofs.fields.file_fields_fault.Statement.{statement}
 use Rattle.blocks.proofs.fields.file_fields_fault.Tie as tie

@@ -8,9 +8,8 @@ use Rattle.records.specs.Tables.{claimsOf}
 use Rattle.records.specs.Order.{firstOf, groups}
 use denote.Ref.{now}
 use lib.ListN.{length}
-use mathlib.Core.Bool.{true, false}
-use mathlib.Core.Path.{_≡_, refl, sym, _∙_}
-use Prim.Native.Nat.{_≤_, _-_, _+_, _*_, _/_}
+use mathlib.Core.Path.{_≡_, refl, sym}
+use Prim.Native.Nat.{_≤_, _-_, _/_}
 use Rattle.sheets.proofs.claims.claims_fault.Statement.{statement}
 use Rattle.sheets.proofs.claims.claims_fault.Tie as tie
 

@@ -7,9 +7,8 @@ use Rattle.records.specs.Tables.{claimsOf, claimsFrom}
 use Rattle.records.specs.Order.{firstOf}
 use denote.Ref.{now}
 use lib.ListN.{length}
-use mathlib.Core.Bool.{true, false}
 use mathlib.Core.Path.{_≡_, refl, sym, _∙_}
-use Prim.Native.Nat.{_≤_, _-_, _+_, _*_, _/_}
+use Prim.Native.Nat.{_≤_, _-_, _+_, _/_}
 use Rattle.sheets.proofs.claims.numbered_fault.Statement.{statement}
 use Rattle.sheets.proofs.claims.numbered_fault.Tie as tie
 

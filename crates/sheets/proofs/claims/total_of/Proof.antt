@@ -6,9 +6,8 @@ use Rattle.records.proofs.ChunkLaws.{claims-all}
 use Rattle.records.specs.Tables.{claimsOf, claimsFrom}
 use denote.Ref.{now}
 use lib.ListN.{length}
-use mathlib.Core.Bool.{true, false}
-use mathlib.Core.Path.{_≡_, refl, sym, _∙_}
-use Prim.Native.Nat.{_≤_, _-_, _+_, _*_, _/_}
+use mathlib.Core.Path.{_≡_, refl}
+use Prim.Native.Nat.{_≤_, _-_, _+_, _/_}
 use Rattle.sheets.proofs.claims.total_of.Statement.{statement}
 use Rattle.sheets.proofs.claims.total_of.Tie as tie
 

@@ -1,6 +1,6 @@
 use Rattle.sheets.proofs.FileVerdicts.{file-refused, file-room, file-read}
 use denote.Ref.{now}
-use mathlib.Core.Path.{_≡_, refl, sym, ap, _∙_}
+use mathlib.Core.Path.{refl, sym, _∙_}
 use borrow.Author.Needs.{needs}
 use Rattle.sheets.proofs.file.check_file.Statement.{statement}
 use Rattle.sheets.proofs.file.check_file.Tie as tie

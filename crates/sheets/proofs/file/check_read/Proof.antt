@@ -1,7 +1,7 @@
 use lib.Seq.{length-take-le}
 use denote.Ref.{now}
 use Prim.Native.Nat.{_*_}
-use mathlib.Core.Path.{_≡_, refl, sym, ap, _∙_}
+use mathlib.Core.Path.{sym}
 use borrow.Author.Needs.{needs}
 use Rattle.sheets.proofs.file.check_read.Statement.{statement}
 use Rattle.sheets.proofs.file.check_read.Tie as tie

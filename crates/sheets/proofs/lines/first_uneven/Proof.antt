@@ -1,15 +1,14 @@
 use native.Mathlib.Omega.{arith}
 use borrow.Author.Needs.{needs}
 use Rattle.sheets.proofs.SearchLaws.{search-holds, search-good, search-bad, search-over}
-use Rattle.sheets.specs.Lines.{contractsOf, evenAt}
+use Rattle.sheets.specs.Lines.{evenAt}
 use Rattle.records.specs.Tables.{legsOf, legsFrom}
 use Rattle.records.specs.Order.{firstOf, askEach}
 use borrow.Author.Tests.{eq-eqb, ne-eqb}
 use denote.Ref.{now}
 use lib.ListN.{length}
-use mathlib.Core.Bool.{true, false}
 use mathlib.Core.Path.{_≡_, refl, sym, _∙_}
-use Prim.Native.Nat.{_≤_, _-_, _+_, _*_, _/_}
+use Prim.Native.Nat.{_≤_, _-_, _/_}
 use Rattle.sheets.proofs.lines.first_uneven.Statement.{statement}
 use Rattle.sheets.proofs.lines.first_uneven.Tie as tie
 

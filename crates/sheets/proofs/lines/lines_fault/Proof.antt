@@ -1,7 +1,6 @@
-use native.Mathlib.Omega.{arith}
 use Rattle.sheets.specs.Sheets.{askLines}
 use Rattle.records.proofs.OrderLaws.{first-append}
-use mathlib.Core.Path.{_≡_, sym, _∙_}
+use mathlib.Core.Path.{sym, _∙_}
 use borrow.Author.Needs.{needs}
 use Rattle.sheets.proofs.lines.lines_fault.Statement.{statement}
 use Rattle.sheets.proofs.lines.lines_fault.Tie as tie

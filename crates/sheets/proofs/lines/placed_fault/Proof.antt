@@ -10,9 +10,8 @@ use mathlib.Core.Bool.{not, _&&_}
 use mathlib.Core.Path.{ap}
 use denote.Ref.{now}
 use lib.ListN.{length}
-use mathlib.Core.Bool.{true, false}
-use mathlib.Core.Path.{_≡_, refl, sym, _∙_}
-use Prim.Native.Nat.{_≤_, _-_, _+_, _*_, _/_}
+use mathlib.Core.Path.{_≡_, refl}
+use Prim.Native.Nat.{_≤_, _-_, _/_}
 use Rattle.sheets.proofs.lines.placed_fault.Statement.{statement}
 use Rattle.sheets.proofs.lines.placed_fault.Tie as tie
 

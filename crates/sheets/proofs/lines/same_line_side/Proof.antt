@@ -1,4 +1,3 @@
-use native.Mathlib.Omega.{arith}
 use Rattle.sheets.specs.Lines.{sameLineSide}
 use borrow.Author.Needs.{needs}
 use Rattle.sheets.proofs.lines.same_line_side.Statement.{statement}

@@ -1,6 +1,6 @@
 use Rattle.sheets.proofs.StageLaws.{tabled-facts, listed-room, groups-refused, groups-entries}
 use denote.Ref.{now}
-use mathlib.Core.Path.{_≡_, refl, sym, ap, _∙_}
+use mathlib.Core.Path.{refl, sym, _∙_}
 use borrow.Author.Needs.{needs}
 use Rattle.sheets.proofs.sheet.groups_fault.Statement.{statement}
 use Rattle.sheets.proofs.sheet.groups_fault.Tie as tie

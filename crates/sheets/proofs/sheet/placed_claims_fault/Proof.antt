@@ -1,7 +1,7 @@
 use Rattle.sheets.specs.Steps.{listedChecks}
 use Rattle.records.proofs.TableLaws.{length-claims}
 use Rattle.records.proofs.OrderLaws.{first-append}
-use mathlib.Core.Path.{_≡_, refl, sym, ap, _∙_}
+use mathlib.Core.Path.{sym, _∙_}
 use borrow.Author.Needs.{needs}
 use Rattle.sheets.proofs.sheet.placed_claims_fault.Statement.{statement}
 use Rattle.sheets.proofs.sheet.placed_claims_fault.Tie as tie

@@ -1,7 +1,7 @@
 use Rattle.sheets.proofs.StageLaws.{rule-stages}
 use Rattle.records.proofs.TableLaws.{length-claims}
 use Rattle.records.proofs.OrderLaws.{first-append}
-use mathlib.Core.Path.{_≡_, refl, sym, ap, _∙_}
+use mathlib.Core.Path.{sym, _∙_}
 use borrow.Author.Needs.{needs}
 use Rattle.sheets.proofs.sheet.rule_fault.Statement.{statement}
 use Rattle.sheets.proofs.sheet.rule_fault.Tie as tie

@@ -1,6 +1,6 @@
 use Rattle.sheets.specs.Sheets.{sheetChecks}
 use Rattle.records.proofs.OrderLaws.{first-append}
-use mathlib.Core.Path.{_≡_, refl, sym, ap, _∙_}
+use mathlib.Core.Path.{sym, _∙_}
 use borrow.Author.Needs.{needs}
 use Rattle.sheets.proofs.sheet.sheet_fault.Statement.{statement}
 use Rattle.sheets.proofs.sheet.sheet_fault.Tie as tie

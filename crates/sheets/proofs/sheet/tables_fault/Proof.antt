@@ -1,7 +1,6 @@
-use native.Mathlib.Omega.{arith}
 use Rattle.sheets.specs.Sheets.{tablesChecks}
 use Rattle.records.specs.Order.{firstOf}
-use mathlib.Core.Path.{_≡_, sym, _∙_}
+use mathlib.Core.Path.{sym}
 use borrow.Author.Needs.{needs}
 use Rattle.sheets.proofs.sheet.tables_fault.Statement.{statement}
 use Rattle.sheets.proofs.sheet.tables_fault.Tie as tie
