@@ -4,6 +4,7 @@ use mathlib.Core.List.{List}
 use Prim.Native.Nat.{ℕ}
 use lib.IntN.{ℤ}
 use lib.ListN.{length}
+use Rattle.records.proofs.Unique.{one-outcome}
 use Rattle.records.specs.Tables.{legsOf}
 use Rattle.records.specs.Written.{putAt}
 use Rattle.records.specs.declared.tables.Kind.the-variants.{Holdings, Placement, Claims}
@@ -16,10 +17,6 @@ use Rattle.spreads.specs.Calls.{marginCall, marginsCall, marginsFrom, worksheet
 use Rattle.sheets.specs.Printed.{lineOf}
 use Rattle.sheets.specs.Verdicts.{verdictOf, fileVerdict}
 use Rattle.usm_c.specs.Answers.{dueWords, listedWords, verdictWords, readingWords, writingWords, tableWords}
-
--- two that are each the promised one are the same
-one-outcome : {A : Type 0} {promised r s : A} → r ≡ promised → s ≡ promised → r ≡ s
-one-outcome p q = p ∙ sym q
 
 pair : {A B : Type 0} (a b : A) (c d : B) → a ≡ b → c ≡ d → _≡_ {A = A × B} (a, c) (b, d)
 pair a b c d p q = rw (p, q)
