@@ -161,7 +161,7 @@ fn print_head(line: &[u8; 64], n: usize) {
 
 pub(crate) fn print_verdict(verdict: Verdict) {
     let mut line = [0u8; 64];
-    let n = sheets::verdict_line(verdict, &mut line);
+    let n = verdicts::verdict_line(verdict, &mut line);
     print(b" ");
     print_head(&line, n);
 }

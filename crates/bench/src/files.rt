@@ -60,7 +60,7 @@ pub(crate) fn write(memory: &mut [u8], sizes: &mut [usize], room: usize) {
 }
 
 pub(crate) fn file(memory: &[u8], sizes: &[usize]) {
-    print_verdict(sheets::check_file(table(memory, sizes, b'f')));
+    print_verdict(verdicts::check_file(table(memory, sizes, b'f')));
 }
 
 // Whether the first n records that were read are the whole of a table.

@@ -1,5 +1,5 @@
--- The demands of specs/Demands.antt, proved: of lists of legs and claims, then of the bytes of the tables, then of a file.
-use mathlib.Core.Path.{_≡_, refl, ap}
+-- The demands of specs/Demands.antt, proved: of lists of legs and claims, then of the bytes of the tables.
+use mathlib.Core.Path.{_≡_, refl}
 use mathlib.Core.Logic.{_↔_}
 use mathlib.Core.List.{List}
 use Prim.Native.Nat.{ℕ, _≤_, _<_}
@@ -18,12 +18,9 @@ use Rattle.records.proofs.OrderLaws.{clear, unclear}
 use Rattle.records.proofs.TableLaws.{Ranges, placement-ranges, length-legs, whole}
 use Rattle.spreads.specs.Prices.{at}
 use Rattle.spreads.specs.Spreads.{groupOf}
-use Rattle.sheets.specs.Demands.{Covers, Sound, Kept, AcceptedJust, AcceptedCovers, AcceptedLeast, AcceptedLimit, FileJust, FileCovers}
+use Rattle.sheets.specs.Demands.{Covers, Sound, Kept, AcceptedJust, AcceptedCovers, AcceptedLeast, AcceptedLimit}
 use Rattle.sheets.specs.Sheets.{claimFor, totalOf, Accepted, ruleChecks, sheetChecks}
-use Rattle.blocks.specs.File.{tablesIn}
-use Rattle.blocks.specs.Reader.{readChecks}
-use Rattle.sheets.specs.Verdicts.{verdictIn, verdictOf, afterReading, fileVerdict}
-use Rattle.sheets.specs.declared.sheet.Verdict.{Verdict}
+use Rattle.sheets.specs.Verdicts.{verdictIn, verdictOf}
 use Rattle.sheets.specs.declared.sheet.Verdict.the-variants.{Accepted as Accepted-verdict}
 use Rattle.sheets.proofs.SheetCover.{group-cover, sheet-cover, sheet-least}
 use Rattle.sheets.proofs.Judged.{pass-rule, rule-pass, fields-pass, passes-kept, kept-passes}
@@ -129,30 +126,3 @@ least h p c n total e g low high = (accepted-claim-covers h p c n total e g low 
 
 pub within-limit : AcceptedLimit
 within-limit = accepted-limit
-
--- a file that is accepted was read, and its tables are accepted
-after-read : (f : Fault) (v : Verdict) (n : ℕ) (z : ℤ) → afterReading f v ≡ Accepted-verdict n z → (f ≡ Nothing) × (v ≡ Accepted-verdict n z)
-after-read Nothing v n z e = (refl, e)
-after-read (Is r) v n z e = let q : _≡_ {A = ℕ} 0 1 = cc in absurd (omega arith)
-
-file-is : (file : List ℕ) (n total : ℕ) → fileVerdict file ≡ Accepted-verdict n (pos total)
-    → (firstOf (readChecks file) ≡ Nothing)
-    × (verdictOf (tablesIn file .holdings) (tablesIn file .placement) (tablesIn file .claims) ≡ Accepted-verdict n (pos total))
-unfolding fileVerdict
-file-is file n total e = after-read (firstOf (readChecks file)) _ n (pos total) e
-
-pub file-just : FileJust
-unfolding fileVerdict
-file-just file n total = (
-  (λ e.
-      let r = file-is file n total e in
-      let k = accepted-just (tablesIn file .holdings) (tablesIn file .placement) (tablesIn file .claims) n (pos total) .0 (r .1) in
-      let z = k .2 in
-      (r .0, k .0, k .1, (cc))),
-  λ k.
-      let v = accepted-just (tablesIn file .holdings) (tablesIn file .placement) (tablesIn file .claims) n (pos total) .1 (k .1, k .2, ap pos (k .3)) in
-      rw (k .0) v,
-)
-
-pub file-covers : FileCovers
-file-covers file n total e = accepted-covers _ (tablesIn file .placement) (tablesIn file .claims) n total (file-is file n total e .1)

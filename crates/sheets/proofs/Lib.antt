@@ -8,9 +8,4 @@ pub mod Judged
 pub mod Limits
 pub mod Demands
 pub mod StageLaws
-pub mod DecimalLaws
-pub mod PieceLaws
-pub mod AmountLaws
-pub mod LineExamples
-pub mod FileVerdicts
 pub mod Unique

@@ -1,5 +1,6 @@
 -- What is demanded of the check of a sheet, each statement under its sentence. The proofs stand in proofs/Demands.antt.
--- Demand 2's round trips stand in the crate blocks, specs/RoundTrips.antt.
+-- Demand 2's round trips stand in the crate blocks, specs/RoundTrips.antt; the same of a file's bytes in the crate
+-- verdicts, specs/Demands.antt.
 use mathlib.Core.Path.{_≡_}
 use mathlib.Core.Bool.{true}
 use mathlib.Core.Logic.{_↔_}
@@ -9,18 +10,14 @@ use lib.IntN.{pos}
 use lib.ListN.{length}
 use Rattle.records.specs.Chunks.{recordsOf}
 use Rattle.records.specs.Lists.{All}
-use Rattle.records.specs.Order.{firstOf}
 use Rattle.records.specs.Tables.{goodRecord, wholeTable, legsOf, claimsOf}
 use Rattle.records.specs.declared.legs.Leg.{Leg}
-use Rattle.records.specs.declared.refusals.Fault.the-variants.{Nothing}
 use Rattle.records.specs.declared.tables.Kind.{Kind}
 use Rattle.records.specs.declared.tables.Kind.the-variants.{Holdings, Placement, Claims}
-use Rattle.blocks.specs.File.{tablesIn}
-use Rattle.blocks.specs.Reader.{readChecks}
 use Rattle.spreads.specs.Prices.{longAt, shortAt}
 use Rattle.spreads.specs.Spreads.{groupOf}
 use Rattle.sheets.specs.Sheets.{claimFor, totalOf, Accepted}
-use Rattle.sheets.specs.Verdicts.{verdictOf, fileVerdict}
+use Rattle.sheets.specs.Verdicts.{verdictOf}
 use Rattle.sheets.specs.declared.sheet.Verdict.the-variants.{Accepted as Accepted-verdict}
 
 -- 'a price is n/d, with any whole d from 1 up, the same for all underlyings, and any whole n from 0 up, chosen for each
@@ -40,8 +37,6 @@ pub record Kept (h p c : List ℕ) : Type 0 where
   pub claims : Sound Claims c
   pub rule : Accepted (legsOf h) (legsOf p) (claimsOf c)
 
--- ---- of a sheet's three tables, whoever made them
-
 -- 'every sheet that keeps the rules is accepted', and no other is; 'The answer is n and the total.'
 abbrev pub AcceptedJust : Type 0
 AcceptedJust = (h p c : List ℕ)
@@ -60,15 +55,3 @@ AcceptedLeast = (h p c : List ℕ) (n total : ℕ) → verdictOf h p c ≡ Accep
 -- 'no accepted sheet's total passes 2,560,000,000,000,000,000'
 abbrev pub AcceptedLimit : Type 0
 AcceptedLimit = (h p c : List ℕ) (n total : ℕ) → verdictOf h p c ≡ Accepted-verdict n (pos total) → total ≤ 2560000000000000000
-
--- ---- the same of a file's bytes
-
-abbrev pub FileJust : Type 0
-FileJust = (file : List ℕ) (n total : ℕ) → (fileVerdict file ≡ Accepted-verdict n (pos total))
-    ↔ ((firstOf (readChecks file) ≡ Nothing)
-    × Kept (tablesIn file .holdings) (tablesIn file .placement) (tablesIn file .claims)
-    × (n ≡ length (claimsOf (tablesIn file .claims)))
-    × (total ≡ totalOf (claimsOf (tablesIn file .claims))))
-
-abbrev pub FileCovers : Type 0
-FileCovers = (file : List ℕ) (n total : ℕ) → fileVerdict file ≡ Accepted-verdict n (pos total) → Covers total (legsOf (tablesIn file .holdings))

@@ -1,4 +1,4 @@
--- What the check of a sheet, and of a file, answers.
+-- What the check of a sheet answers.
 use mathlib.Core.List.{List}
 use Prim.Native.Nat.{ℕ}
 use lib.IntN.{pos}
@@ -7,8 +7,6 @@ use Rattle.records.specs.Order.{firstOf}
 use Rattle.records.specs.Tables.{claimsOf}
 use Rattle.records.specs.declared.refusals.Fault.{Fault}
 use Rattle.records.specs.declared.refusals.Fault.the-variants.{Nothing, Is}
-use Rattle.blocks.specs.File.{tablesIn}
-use Rattle.blocks.specs.Reader.{readChecks}
 use Rattle.sheets.specs.Sheets.{sheetChecks, totalOf}
 use Rattle.sheets.specs.declared.sheet.Verdict.{Verdict}
 use Rattle.sheets.specs.declared.sheet.Verdict.the-variants.{Accepted, Refused}
@@ -19,14 +17,3 @@ verdictIn (Is r) n total = Refused r
 
 unfoldable pub verdictOf : List ℕ → List ℕ → List ℕ → Verdict
 verdictOf h p c = verdictIn (firstOf (sheetChecks h p c)) (length (claimsOf c)) (totalOf (claimsOf c))
-
--- ---- of a file's bytes: the reader's refusals, then the sheet's
-
-abbrev pub afterReading : Fault → Verdict → Verdict
-afterReading Nothing verdict = verdict
-afterReading (Is r) verdict = Refused r
-
-unfoldable pub fileVerdict : List ℕ → Verdict
-fileVerdict file =
-    afterReading (firstOf (readChecks file))
-    (verdictOf (tablesIn file .holdings) (tablesIn file .placement) (tablesIn file .claims))

@@ -15,8 +15,9 @@ use Rattle.records.specs.declared.refusals.Fault.the-variants.{Nothing, Is}
 use Rattle.blocks.specs.Reader.{readChecks}
 use Rattle.spreads.specs.Calls.{dueAnswer, groupChecks, marginCall}
 use Rattle.sheets.specs.Sheets.{sheetChecks}
-use Rattle.sheets.specs.Verdicts.{verdictIn, verdictOf, afterReading, fileVerdict}
+use Rattle.sheets.specs.Verdicts.{verdictIn, verdictOf}
 use Rattle.sheets.specs.declared.sheet.Verdict.{Verdict}
+use Rattle.verdicts.specs.FileVerdicts.{afterReading, fileVerdict}
 use Rattle.usm_c.specs.Answers.{isMills, DueMills, VerdictMills}
 
 -- the bits of such an amount are read as the amount

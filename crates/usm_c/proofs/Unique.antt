@@ -14,8 +14,9 @@ use Rattle.blocks.specs.Writer.{writeOf, filled}
 use Rattle.spreads.specs.Spreads.{groupOf}
 use Rattle.spreads.specs.Strikes.{strikesOf, netsOf}
 use Rattle.spreads.specs.Calls.{marginCall, marginsCall, marginsFrom, worksheetCall, listLeft}
-use Rattle.sheets.specs.Printed.{lineOf}
-use Rattle.sheets.specs.Verdicts.{verdictOf, fileVerdict}
+use Rattle.sheets.specs.Verdicts.{verdictOf}
+use Rattle.verdicts.specs.FileVerdicts.{fileVerdict}
+use Rattle.verdicts.specs.Printed.{lineOf}
 use Rattle.usm_c.specs.Answers.{dueWords, listedWords, verdictWords, readingWords, writingWords, tableWords}
 
 pair : {A B : Type 0} (a b : A) (c d : B) → a ≡ b → c ≡ d → _≡_ {A = A × B} (a, c) (b, d)

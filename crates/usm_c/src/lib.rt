@@ -11,8 +11,9 @@ ghost use Rattle.blocks.specs.Writer.{writeOf, filled};
 ghost use Rattle.spreads.specs.Spreads.{groupOf};
 ghost use Rattle.spreads.specs.Strikes.{strikesOf, netsOf};
 ghost use Rattle.spreads.specs.Calls.{marginCall, marginsCall, marginsFrom, worksheetCall, listLeft};
-ghost use Rattle.sheets.specs.Printed.{lineOf};
-ghost use Rattle.sheets.specs.Verdicts.{verdictOf, fileVerdict};
+ghost use Rattle.sheets.specs.Verdicts.{verdictOf};
+ghost use Rattle.verdicts.specs.FileVerdicts.{fileVerdict};
+ghost use Rattle.verdicts.specs.Printed.{lineOf};
 ghost use Rattle.usm_c.specs.Answers.{dueWords, listedWords, verdictWords, readingWords, writingWords, tableWords};
 
 mod words;
@@ -83,7 +84,7 @@ pub extern "C" fn usm_check_sheet(
 pub extern "C" fn usm_check_file(file: &[u8], answer: &mut [u64; 4])
     ensures { λ _. ⌜ now (answer .exit) ≡ verdictWords (fileVerdict (now (file .entry))) ⌝ }
 {
-    *answer = verdict_words(sheets::check_file(file));
+    *answer = verdict_words(verdicts::check_file(file));
 }
 
 // The records of a sheet file, into three lent tables.
@@ -124,5 +125,5 @@ pub extern "C" fn usm_file_line(file: &[u8], line: &mut [u8; 64]) -> usize
     ensures { λ r. ⌜ r ≡ length (lineOf (fileVerdict (now (file .entry)))) ⌝ }
     ensures { λ _. ⌜ now (line .exit) ≡ putAt (now (line .entry)) 0 (lineOf (fileVerdict (now (file .entry)))) ⌝ }
 {
-    sheets::verdict_line(sheets::check_file(file), line)
+    verdicts::verdict_line(verdicts::check_file(file), line)
 }

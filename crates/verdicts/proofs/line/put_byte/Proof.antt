@@ -1,0 +1,10 @@
+use Rattle.verdicts.proofs.PieceLaws.{wrote-byte}
+use borrow.Author.Needs.{needs}
+use Rattle.verdicts.proofs.line.put_byte.Statement.{statement}
+use Rattle.verdicts.proofs.line.put_byte.Tie as tie
+
+returns : tie.Need-returns
+returns c = wrote-byte _ _ _ (c .pre)
+
+pub put-byte-spec : {M : Type 1} → statement M
+put-byte-spec = tie.close (tie.spec (λ c. search needs) (λ c. search needs) (λ c. search needs) returns)
