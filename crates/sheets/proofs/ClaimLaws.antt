@@ -1,4 +1,4 @@
--- A claim by its group, as a loop over 32-byte parts sees it.
+-- Claims as a loop over 32-byte parts sees them: numbered in order, each by its group, and added up.
 use Prim.Native.Nat.{ℕ, zero, suc, _+_, _-_, _*_, _/_, _≤_, _<_}
 use mathlib.Core.Path.{_≡_, refl, _∙_, ap}
 use mathlib.Core.Bool.{true}
@@ -17,10 +17,25 @@ use Rattle.records.specs.declared.tables.Kind.the-variants.{Claims}
 use Rattle.records.proofs.ChunkLaws.{getD-chunks, length-chunks, part-is, claims-none, claim-next}
 use Rattle.records.proofs.ListLaws.{sum-step, sum-over}
 use Rattle.records.proofs.TableLaws.{fields-good, claim-ranges}
-use Rattle.sheets.specs.Sheets.{claimFor, totalOf}
+use Rattle.sheets.specs.Sheets.{claimFor, askNumbered, totalOf}
 use Rattle.sheets.specs.Steps.{bits, askListed}
 use borrow.Author.Tests.{eq-eqb, ne-eqb}
 use lib.IntN.{ℤ, pos}
+
+module _ (i : ℕ) (k : Claim) (l ls : List Claim) (e : l ≡ k ∷ ls) where
+  pub numbered-good : k .group ≡ i + 1 → firstOf (askNumbered i l) ≡ firstOf (askNumbered (i + 1) ls)
+  unfolding firstOf askNumbered
+  numbered-good g = rw (e, eq-eqb _ _ g)
+
+  pub numbered-bad : (k .group ≡ i + 1 → ⊥) → firstOf (askNumbered i l) ≡ Is (refuse 5 3 i)
+  unfolding firstOf askNumbered
+  numbered-bad g = rw (e, ne-eqb _ _ g)
+
+pub numbered-none : (i : ℕ) (l : List Claim) → l ≡ [] → firstOf (askNumbered i l) ≡ Nothing
+unfolding firstOf askNumbered
+numbered-none i l e = rw e
+
+-- ---- the claim of a group
 
 getD-map : {A B : Type 0} (f : A → B) (l : List A) (i : ℕ) (d : A) (e : B) → i < length l → getD (map f l) i e ≡ f (getD l i d)
 getD-map f [] i d e h = absurd (not-suc-le-zero h)

@@ -73,17 +73,17 @@ unfolding total
 total-first zero F = omega arith
 total-first (suc n) F = omega (arith, total-first n F)
 
-claim-next : (c : Claim) (cs : List Claim) (g : ℕ) → 1 ≤ g → claimFor (c ∷ cs) (suc g) ≡ claimFor cs g
+claim-for-next : (c : Claim) (cs : List Claim) (g : ℕ) → 1 ≤ g → claimFor (c ∷ cs) (suc g) ≡ claimFor cs g
 unfolding claimFor
-claim-next c cs zero h = absurd (omega arith)
-claim-next c cs (suc g) h =
+claim-for-next c cs zero h = absurd (omega arith)
+claim-for-next c cs (suc g) h =
     let i : suc (suc g) - 1 ≡ suc g = omega arith in
     let j : suc g - 1 ≡ g = omega arith in
     rw (i, j) refl
 
-claim-first : (c : Claim) (cs : List Claim) → claimFor (c ∷ cs) 1 ≡ c .margin
+claim-for-first : (c : Claim) (cs : List Claim) → claimFor (c ∷ cs) 1 ≡ c .margin
 unfolding claimFor
-claim-first c cs = refl
+claim-for-first c cs = refl
 
 -- the claims added up are the claims for groups 1 to n added up
 pub total-claims : (cs : List Claim) → totalOf cs ≡ total (length cs) (claimFor cs)
@@ -93,7 +93,7 @@ total-claims (c ∷ cs) =
     omega (
       arith,
       total-claims cs,
-      claim-first c cs,
+      claim-for-first c cs,
       total-first (length cs) (claimFor (c ∷ cs)),
-      total-ext (length cs) (λ g. claimFor (c ∷ cs) (suc g)) (claimFor cs) (λ g a b. claim-next c cs g a),
+      total-ext (length cs) (λ g. claimFor (c ∷ cs) (suc g)) (claimFor cs) (λ g a b. claim-for-next c cs g a),
     )

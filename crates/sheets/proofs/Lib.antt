@@ -1,4 +1,5 @@
 pub mod SearchLaws
+pub mod ContractLaws
 pub mod ClaimLaws
 pub mod Held
 pub mod LineLaws

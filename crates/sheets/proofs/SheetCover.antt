@@ -20,10 +20,10 @@ use Rattle.sheets.specs.Sheets.{claimFor, totalOf, Accepted}
 use Rattle.sheets.proofs.LineLaws.{side-level}
 use Rattle.sheets.proofs.Groups.{by-group, total-le, total-claims}
 
-clash : (a b : Bool) (v : ℕ) → (a ≡ true → b ≡ true → ⊥) → only a (only b v) ≡ 0
-clash true true v k = absurd (k refl refl)
-clash true false v k = refl
-clash false b v k = refl
+never-both : (a b : Bool) (v : ℕ) → (a ≡ true → b ≡ true → ⊥) → only a (only b v) ≡ 0
+never-both true true v k = absurd (k refl refl)
+never-both true false v k = refl
+never-both false b v k = refl
 
 -- the group's own underlying is the only one that counts
 one-price : (t : Leg → Bool) (d : ℕ) (price : ℕ → ℕ) (u : ℕ) (legs : List Leg) → All (λ l. l .underlying ≡ u) legs
@@ -52,7 +52,7 @@ module _ (h p : List Leg) (c : List Claim) (ok : Accepted h p c) where
         arith,
         sum-keep (λ l. only (isShort l) (value d price l)) (λ l. eqb (l .group) 0) p,
         sum-lin 1 0 0 (λ l. only (eqb (l .group) 0) (only (isShort l) (value d price l))) (λ l. 0) (λ l. 0) p
-            (all-map p (λ l k. omega (arith, clash (eqb (l .group) 0) (isShort l) (value d price l) (λ a b. k b (eqb-true (l .group) 0 a)))) (ok .placed)),
+            (all-map p (λ l k. omega (arith, never-both (eqb (l .group) 0) (isShort l) (value d price l) (λ a b. k b (eqb-true (l .group) 0 a)))) (ok .placed)),
       )
 
   -- the holdings lose no more than the total, at every price of each underlying

@@ -29,14 +29,14 @@ use Rattle.sheets.specs.Steps.{Tabled, askListed, listedChecks, groupsRu
 
 -- ---- what tables that passed 1 and 4 are
 
-pub record Facts (h p c : List ℕ) : Type 0 where
+pub record TabledFacts (h p c : List ℕ) : Type 0 where
   pub holdings : length h ≤ 8192
   pub placement : length p ≤ 8192
   pub claims : length c / 32 ≤ 32
   pub placed : firstOf (tableChecks Placement p) ≡ Nothing
   pub fields : firstOf (fieldChecks Claims c) ≡ Nothing
 
-pub tabled-facts : (h p c : List ℕ) → Tabled h p c → Facts h p c
+pub tabled-facts : (h p c : List ℕ) → Tabled h p c → TabledFacts h p c
 unfolding tableChecks
 tabled-facts h p c t =
     let s = pass-tables h p c (clear _ (t .passed)) in

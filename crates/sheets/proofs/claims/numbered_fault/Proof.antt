@@ -1,6 +1,6 @@
 use native.Mathlib.Omega.{arith}
 use borrow.Author.Needs.{needs}
-use Rattle.sheets.proofs.SearchLaws.{numbered-good, numbered-bad, numbered-none}
+use Rattle.sheets.proofs.ClaimLaws.{numbered-good, numbered-bad, numbered-none}
 use Rattle.sheets.specs.Sheets.{askNumbered}
 use Rattle.records.proofs.ChunkLaws.{claims-all, claims-none, claim-next}
 use Rattle.records.specs.Tables.{claimsOf, claimsFrom}

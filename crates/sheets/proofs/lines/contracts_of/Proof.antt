@@ -1,6 +1,6 @@
 use native.Mathlib.Omega.{arith}
 use borrow.Author.Needs.{needs}
-use Rattle.sheets.proofs.SearchLaws.{contracts-step, contracts-over}
+use Rattle.sheets.proofs.ContractLaws.{contracts-step, contracts-over}
 use Rattle.sheets.specs.Lines.{sameLineSide, contractsOf}
 use Rattle.records.proofs.ChunkLaws.{legs-all}
 use Rattle.records.specs.Tables.{legsOf, legsFrom}

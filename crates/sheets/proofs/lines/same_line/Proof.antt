@@ -1,5 +1,5 @@
 use Rattle.sheets.specs.Lines.{sameLine}
-use Rattle.sheets.proofs.SearchLaws.{line-rest}
+use Rattle.sheets.proofs.ContractLaws.{line-rest}
 use borrow.Author.Tests.{ne-eqb}
 use mathlib.Core.Bool.{and-false}
 use Rattle.sheets.proofs.lines.same_line.Statement.{statement}
