@@ -3,7 +3,7 @@ use Rattle.usm_c.proofs.usm_read_file.Statement.{statement}
 use Rattle.usm_c.proofs.usm_read_file.Tie as tie
 
 returns : tie.Need-returns
-returns c = let r = c .before .before .before .before .before .before .before .read-file .ensures in rw (← r .0) (c .reading-words .ensures, r .1)
+returns c = let r = c .before .before .before .before .before .before .before .read-file .ensures in (rw (r .0) at (c .reading-words .ensures), rw (r .0) at (r .1))
 
 pub usm-read-file-spec : {M : Type 1} → statement M
 usm-read-file-spec =

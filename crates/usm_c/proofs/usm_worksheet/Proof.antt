@@ -3,7 +3,7 @@ use Rattle.usm_c.proofs.usm_worksheet.Statement.{statement}
 use Rattle.usm_c.proofs.usm_worksheet.Tie as tie
 
 returns : tie.Need-returns
-returns c = let w = c .before .before .before .before .worksheet .ensures in rw (← w .0) (c .listed-words .ensures, w .1)
+returns c = let w = c .before .before .before .before .worksheet .ensures in (rw (w .0) at (c .listed-words .ensures), rw (w .0) at (w .1))
 
 pub usm-worksheet-spec : {M : Type 1} → statement M
 usm-worksheet-spec =

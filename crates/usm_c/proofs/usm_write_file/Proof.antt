@@ -3,7 +3,7 @@ use Rattle.usm_c.proofs.usm_write_file.Statement.{statement}
 use Rattle.usm_c.proofs.usm_write_file.Tie as tie
 
 returns : tie.Need-returns
-returns c = let w = c .before .before .before .write-file .ensures in rw (← w .0) (c .writing-words .ensures, w .1)
+returns c = let w = c .before .before .before .write-file .ensures in (rw (w .0) at (c .writing-words .ensures), rw (w .0) at (w .1))
 
 pub usm-write-file-spec : {M : Type 1} → statement M
 usm-write-file-spec =
