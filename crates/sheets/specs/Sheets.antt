@@ -1,6 +1,6 @@
 -- 'The rule of a sheet', as facts and as refusals in their order.
 use mathlib.Core.Path.{_≡_}
-use mathlib.Core.Bool.{true, not, _&&_}
+use mathlib.Core.Bool.{Bool, true, not, _&&_}
 use mathlib.Core.Logic.{_≢_}
 use mathlib.Core.List.{List, [], _∷_, _++_, map}
 use Prim.Native.Nat.{ℕ, _+_, _-_, _≤_}
@@ -69,11 +69,13 @@ ruleChecks h p c =
     ∷ groups (length c) (askClaim p c)
     ∷ [])
 
--- 1, 'table not whole records or over its limit', then 4
+-- not 'table not whole records or over its limit', of any of the three
+abbrev pub wholeTables : List ℕ → List ℕ → List ℕ → Bool
+wholeTables h p c = wholeTable Holdings (length h) && wholeTable Placement (length p) && wholeTable Claims (length c)
+
+-- 1, then 4
 unfoldable pub tablesChecks : List ℕ → List ℕ → List ℕ → List Check
-tablesChecks h p c =
-    ask (wholeTable Holdings (length h) && wholeTable Placement (length p) && wholeTable Claims (length c)) 1 0 0
-    ∷ fieldsChecks h p c
+tablesChecks h p c = ask (wholeTables h p c) 1 0 0 ∷ fieldsChecks h p c
 
 unfoldable pub sheetChecks : List ℕ → List ℕ → List ℕ → List Check
 sheetChecks h p c = tablesChecks h p c ++ ruleChecks (legsOf h) (legsOf p) (claimsOf c)

@@ -1,17 +1,29 @@
-use Rattle.sheets.specs.Sheets.{tablesChecks}
+use Rattle.sheets.specs.Sheets.{wholeTables, tablesChecks}
 use Rattle.records.specs.Order.{firstOf}
-use mathlib.Core.Path.{sym}
+use denote.Ref.{now}
+use mathlib.Core.Bool.{true, false}
+use mathlib.Core.Path.{_≡_}
 use borrow.Author.Needs.{needs}
 use Rattle.sheets.proofs.sheet.tables_fault.Statement.{statement}
 use Rattle.sheets.proofs.sheet.tables_fault.Tie as tie
 
 returns : tie.Need-returns
 unfolding tablesChecks firstOf
-returns c = rw (sym (c .before .before .before .before .whole-table .ensures), sym (c .before .before .before .whole-table2 .ensures), sym (c .before .before .whole-table3 .ensures), c .before .if1 .taken) (c .fields-fault .ensures)
+returns c =
+    let w = c .before .before in
+    let a = w .before .before .before .before .before .before .args in
+    let whole : wholeTables (now (a .holdings)) (now (a .placement)) (now (a .claims)) ≡ true =
+    rw (w .before .before .whole-table .ensures, w .before .whole-table2 .ensures, w .whole-table3 .ensures) at (c .before .if1 .taken) in
+    rw whole (c .fields-fault .ensures)
 
 returns-2 : tie.Need-returns-2
 unfolding tablesChecks firstOf
-returns-2 c = rw (sym (c .before .before .before .whole-table .ensures), sym (c .before .before .whole-table2 .ensures), sym (c .before .whole-table3 .ensures), c .if1 .left)
+returns-2 c =
+    let w = c .before in
+    let a = w .before .before .before .before .before .before .args in
+    let torn : wholeTables (now (a .holdings)) (now (a .placement)) (now (a .claims)) ≡ false =
+    rw (w .before .before .whole-table .ensures, w .before .whole-table2 .ensures, w .whole-table3 .ensures) at (c .if1 .left) in
+    rw torn
 
 pub tables-fault-spec : {M : Type 1} → statement M
 tables-fault-spec =
