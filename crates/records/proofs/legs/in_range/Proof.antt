@@ -5,7 +5,20 @@ use Rattle.records.proofs.legs.in_range.Tie as tie
 
 returns : tie.Need-returns
 unfolding inRange
-returns c = cc
+returns c =
+    rw (
+      c .is-within9 .ensures,
+      c .before .number .ensures,
+      c .before .before .real-date .ensures,
+      c .before .before .before .is-within8 .ensures,
+      c .before .before .before .before .is-within7 .ensures,
+      c .before .before .before .before .before .is-within6 .ensures,
+      c .before .before .before .before .before .before .before .is-within5 .ensures,
+      c .before .before .before .before .before .before .before .before .before .is-within4 .ensures,
+      c .before .before .before .before .before .before .before .before .before .before .before .is-within3 .ensures,
+      c .before .before .before .before .before .before .before .before .before .before .before .before .before .is-within2 .ensures,
+      c .before .before .before .before .before .before .before .before .before .before .before .before .before .before .before .is-within .ensures,
+    )
 
 pub in-range-spec : {M : Type 1} → statement M
 in-range-spec =
