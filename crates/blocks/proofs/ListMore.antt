@@ -54,6 +54,14 @@ chunks-append size (suc m) n r s e =
     rw (suc-add m n, take-append-le size r s (omega arith), drop-append-le size r s (omega arith))
     (ap (λ (l : List (List ℕ)). take size r ∷ l) (chunks-append size m n (drop size r) s d))
 
+-- what holds of every part holds of part i
+pub all-chunk : (P : List ℕ → Type 0) (size n i : ℕ) (xs : List ℕ) → i < n → All P (chunks size n xs) → P (chunkAt size xs i)
+unfolding chunks
+all-chunk P size zero i xs h a = absurd (omega arith)
+all-chunk P size (suc n) zero xs h a = rw (mul-zero size) (a .0)
+all-chunk P size (suc n) (suc i) xs h a =
+    rw (mul-suc size i, add-comm (size * i) size, ← (drop-drop (size * i) size xs)) (all-chunk P size n i (drop size xs) (omega arith) (a .1))
+
 pub chunks-short : (size n : ℕ) (xs : List ℕ) → All (λ p. length p ≤ size) (chunks size n xs)
 unfolding chunks
 chunks-short size zero xs = tt

@@ -15,10 +15,9 @@ use Rattle.records.specs.declared.refusals.Fault.the-variants.{Nothing, Is}
 use Rattle.records.specs.declared.tables.Kind.{Kind}
 use Rattle.records.specs.declared.tables.Kind.the-variants.{Holdings, Placement, Claims}
 use Rattle.records.proofs.OrderLaws.{Pass, clear, unclear, first-append, pass-left}
-use Rattle.blocks.specs.File.{wholeFile, blocksOf, countAs, recordsAs, joined, tablesIn, fits, withinLimits, blockChecks, blocksChecks, fileChecks}
-use Rattle.blocks.specs.Writer.{fieldsOf}
+use Rattle.blocks.specs.File.{wholeFile, blocksOf, countAs, recordsAs, joined, tablesIn, fits, withinLimits, blockChecks, blocksChecks, fileChecks, recordChecks}
 use Rattle.blocks.specs.Reader.{reading, countsOf, readChecks, readRoom, readOf}
-use Rattle.blocks.specs.Steps.{Sized, scanOf, judged}
+use Rattle.blocks.specs.Steps.{Sized, SizedFile, scanOf, judged}
 use Rattle.blocks.specs.declared.reader.Counts.{Counts}
 use Rattle.blocks.specs.declared.reader.Reading.the-variants.{Read, Refused}
 use Rattle.blocks.proofs.BlockLaws.{formed-is}
@@ -74,8 +73,10 @@ pub sound : (f : List ℕ) → Pass (fileChecks f) → Sound f
 unfolding fileChecks
 sound f p = file-sound f (p .0) (unclear _ (p .1))
 
-pub sizes : (f : List ℕ) → Sound f → (length f ≤ 19968) × (length f % 512 ≡ 0)
-sizes f s = let h = whole-file (length f) (s .whole) in (omega arith, h .0)
+pub sized-file : (f : List ℕ) → Sound f → SizedFile f
+sized-file f s =
+    let h = whole-file (length f) (s .whole) in
+    record { most = omega arith; whole = h .0; blocks = s .sized }
 
 -- a table that is read is of whole records and within its limit
 module _ (f : List ℕ) (s : Sound f) (kind : Kind) where
@@ -110,9 +111,9 @@ module _ (f : List ℕ) where
   judge-1 e = rw e
 
   module _ (w : wholeFile (length f) ≡ true) where
-    checks-are : firstOf (readChecks f) ≡ orElse (firstOf (blocksChecks (length f / 512) [] (blocksOf f))) (firstOf (fieldsOf (tablesIn f)))
+    checks-are : firstOf (readChecks f) ≡ orElse (firstOf (blocksChecks (length f / 512) [] (blocksOf f))) (firstOf (recordChecks (tablesIn f)))
     unfolding readChecks fileChecks firstOf
-    checks-are = rw (w, first-append (blocksChecks (length f / 512) [] (blocksOf f)) (fieldsOf (tablesIn f)))
+    checks-are = rw (w, first-append (blocksChecks (length f / 512) [] (blocksOf f)) (recordChecks (tablesIn f)))
 
     pub judge-block : (r : Refusal) → scanOf f ≡ Refused r → judged f ≡ Refused r
     unfolding judged scanOf
@@ -126,11 +127,11 @@ module _ (f : List ℕ) where
       pub scan-sound : Sound f
       scan-sound = file-sound f w (passed .0)
 
-      pub judge-field : (r : Refusal) → firstOf (fieldsOf (tablesIn f)) ≡ Is r → judged f ≡ Refused r
+      pub judge-field : (r : Refusal) → firstOf (recordChecks (tablesIn f)) ≡ Is r → judged f ≡ Refused r
       unfolding judged
       judge-field r x = rw (checks-are, passed .0, x)
 
-      pub judge-good : firstOf (fieldsOf (tablesIn f)) ≡ Nothing → judged f ≡ Read n
+      pub judge-good : firstOf (recordChecks (tablesIn f)) ≡ Nothing → judged f ≡ Read n
       unfolding judged
       judge-good x = rw (checks-are, passed .0, x) (ap Read (passed .1))
 
@@ -138,7 +139,7 @@ module _ (f : List ℕ) where
 
 pub read-sound : (f : List ℕ) → firstOf (readChecks f) ≡ Nothing → Sound f
 unfolding readChecks
-read-sound f e = sound f (pass-left (fileChecks f) (fieldsOf (tablesIn f)) (clear (fileChecks f ++ fieldsOf (tablesIn f)) e))
+read-sound f e = sound f (pass-left (fileChecks f) (recordChecks (tablesIn f)) (clear (fileChecks f ++ recordChecks (tablesIn f)) e))
 
 -- the bytes of so many records
 pub record Bytes (f : List ℕ) (n : Counts) : Type 0 where

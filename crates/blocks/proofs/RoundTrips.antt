@@ -15,8 +15,8 @@ use Rattle.records.specs.declared.tables.Kind.{Kind}
 use Rattle.records.specs.declared.tables.Kind.the-variants.{Holdings, Placement, Claims}
 use Rattle.records.proofs.ChunkLaws.{length-chunks}
 use Rattle.records.proofs.OrderLaws.{Pass, clear, unclear, pass-left, pass-right, pass-both}
-use Rattle.blocks.specs.File.{Tables, tables, tableOf, wholeFile, blocksOf, joined, tablesIn, blocksChecks, fileChecks, blockCount, blocksIn, partsOf, numbered, blocksFor, flat, fileOf}
-use Rattle.blocks.specs.Writer.{takenTables, fieldsOf, writeChecks, filled}
+use Rattle.blocks.specs.File.{Tables, tables, tableOf, wholeFile, blocksOf, joined, tablesIn, blocksChecks, fileChecks, blockCount, blocksIn, partsOf, numbered, blocksFor, flat, fileOf, recordChecks}
+use Rattle.blocks.specs.Writer.{takenTables, writeChecks, filled}
 use Rattle.blocks.specs.Reader.{readChecks, leaves}
 use Rattle.blocks.specs.RoundTrips.{Writes, Reads, AllBytes, WrittenReadsBack, ReadWritesBack, CallsReadBack, CallsWriteBack}
 use Rattle.blocks.proofs.BlockLaws.{length-block}
@@ -139,13 +139,13 @@ module _ (t : Tables) (w : Writes t) where
       let r = reach (blocksIn t) t taken in
       (whole, rw (blocks-back, blocks-number, r .state .blocks) (pass-onto (blocksIn t) (r .before) [] (r .passed) tt))
 
-  fields-pass : Pass (fieldsOf (tablesIn (fileOf t)))
+  fields-pass : Pass (recordChecks (tablesIn (fileOf t)))
   unfolding writeChecks
   fields-pass = rw tables-back (passed .1)
 
   reads : Reads (fileOf t)
   unfolding readChecks
-  reads = unclear (fileChecks (fileOf t) ++ fieldsOf (tablesIn (fileOf t))) (pass-both (fileChecks (fileOf t)) (fieldsOf (tablesIn (fileOf t))) file-passes fields-pass)
+  reads = unclear (fileChecks (fileOf t) ++ recordChecks (tablesIn (fileOf t))) (pass-both (fileChecks (fileOf t)) (recordChecks (tablesIn (fileOf t))) file-passes fields-pass)
 
 pub written-reads-back : WrittenReadsBack
 written-reads-back t w = (reads t w, tables-back t w)
@@ -159,11 +159,11 @@ some-not zero (suc p) c h = rw (eqb·suc-zero p)
 some-not (suc h) p c e = rw (eqb·suc-zero h)
 
 module _ (f : List ℕ) (a : AllBytes f) (r : Reads f) where
-  both : Pass (fileChecks f) × Pass (fieldsOf (tablesIn f))
+  both : Pass (fileChecks f) × Pass (recordChecks (tablesIn f))
   unfolding readChecks
   both =
-      let p = clear (fileChecks f ++ fieldsOf (tablesIn f)) r in
-      (pass-left (fileChecks f) (fieldsOf (tablesIn f)) p, pass-right (fileChecks f) (fieldsOf (tablesIn f)) p)
+      let p = clear (fileChecks f ++ recordChecks (tablesIn f)) r in
+      (pass-left (fileChecks f) (recordChecks (tablesIn f)) p, pass-right (fileChecks f) (recordChecks (tablesIn f)) p)
 
   fine : Sound f
   fine = sound f (both .0)
@@ -221,4 +221,4 @@ unfolding filled writeChecks
 calls-write-back f a r room fits =
     let e = file-back f a r in
     let p = clear (writeChecks (tablesIn f)) (writes f a r) in
-    (rw e at (write-done (tablesIn f) room (p .0) (unclear (fieldsOf (tablesIn f)) (p .1)) (omega (arith, ap length (sym e) ∙ length-file (tablesIn f)))), λ lent. rw e)
+    (rw e at (write-done (tablesIn f) room (p .0) (unclear (recordChecks (tablesIn f)) (p .1)) (omega (arith, ap length (sym e) ∙ length-file (tablesIn f)))), λ lent. rw e)

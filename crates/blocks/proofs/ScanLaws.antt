@@ -18,7 +18,7 @@ use Rattle.records.specs.declared.tables.Kind.the-variants.{Holdings, Placement
 use Rattle.records.proofs.OrderLaws.{first-append}
 use Rattle.blocks.specs.Block.{kindOf, countOf, sumsAgree, formed}
 use Rattle.blocks.specs.File.{blocksOf, countAs, recordsAs, joined, tablesIn, follows, withinLimits, blockChecks, blocksChecks}
-use Rattle.blocks.specs.Steps.{nothingYet, soFar, grown, mayFollow, inLimits, Small, Sized, faultNumber, scanOf}
+use Rattle.blocks.specs.Steps.{nothingYet, soFar, grown, mayFollow, inLimits, Small, Sized, blockFault, scanOf}
 use Rattle.blocks.specs.declared.scanner.SoFar.{SoFar}
 use Rattle.blocks.specs.declared.reader.Reading.the-variants.{Read}
 use Rattle.blocks.proofs.BlockLaws.{formed-is}
@@ -45,8 +45,8 @@ four true true true false i = refl
 four true true true true i = refl
 
 pub block-first : (n : ℕ) (before : List (List ℕ)) (b : List ℕ)
-    → firstOf (blockChecks n before b) ≡ found (faultNumber (soFar before) (length before) n b) (length before)
-unfolding blockChecks faultNumber follows withinLimits sum
+    → firstOf (blockChecks n before b) ≡ found (blockFault (soFar before) (length before) n b) (length before)
+unfolding blockChecks blockFault follows withinLimits sum
 block-first n before b =
     four (sumsAgree b) (formed (length before) n b) (mayFollow (soFar before) (kindOf b)) (inLimits (grown (soFar before) (kindOf b) (countOf b))) (length before)
 
@@ -57,9 +57,9 @@ three true false c e = absurd (omega arith)
 three false b c e = absurd (omega arith)
 
 -- what a block without a fault is
-pub no-fault : (s : SoFar) (i n : ℕ) (b : List ℕ) → faultNumber s i n b ≡ 0
+pub no-fault : (s : SoFar) (i n : ℕ) (b : List ℕ) → blockFault s i n b ≡ 0
     → (sumsAgree b ≡ true) × (formed i n b ≡ true) × (mayFollow s (kindOf b) ≡ true) × (inLimits (grown s (kindOf b) (countOf b)) ≡ true)
-unfolding faultNumber
+unfolding blockFault
 no-fault s i n b e =
     let t = three (sumsAgree b) (formed i n b) (mayFollow s (kindOf b) && inLimits (grown s (kindOf b) (countOf b))) e in
     let q = and-eq-true-iff (mayFollow s (kindOf b)) (inLimits (grown s (kindOf b) (countOf b))) .0 (t .2) in
@@ -105,7 +105,7 @@ scan-start f =
 
 module _ (f : List ℕ) (i : ℕ) (s : SoFar) (h : i < length f / 512) (inv : Scanned f i s) where
   step : firstOf (blocksChecks (length f / 512) [] (blocksOf f))
-      ≡ orElse (found (faultNumber s i (length f / 512) (chunkAt 512 f i)) i) (firstOf (blocksChecks (length f / 512) (earlier f (i + 1)) (blocksFrom f (i + 1))))
+      ≡ orElse (found (blockFault s i (length f / 512) (chunkAt 512 f i)) i) (firstOf (blocksChecks (length f / 512) (earlier f (i + 1)) (blocksFrom f (i + 1))))
   unfolding blocksChecks
   step =
       let n = length f / 512 in
@@ -115,11 +115,11 @@ module _ (f : List ℕ) (i : ℕ) (s : SoFar) (h : i < length f / 512) (inv : Sc
       inv .checks
       ∙ rw (blocks-step f i h, first-append (blockChecks n (earlier f i) b) (blocksChecks n (b ∷ earlier f i) (blocksFrom f (i + 1))), e, l, inv .seen, earlier-next f i)
 
-  pub scan-fault : (t : ℕ) → t ≡ faultNumber s i (length f / 512) (chunkAt 512 f i) → (t ≡ 0 → ⊥)
+  pub scan-fault : (t : ℕ) → t ≡ blockFault s i (length f / 512) (chunkAt 512 f i) → (t ≡ 0 → ⊥)
       → firstOf (blocksChecks (length f / 512) [] (blocksOf f)) ≡ Is (refuse t 0 i)
   scan-fault t e bad = step ∙ rw (← e, ne-eqb t 0 bad)
 
-  module _ (fine : faultNumber s i (length f / 512) (chunkAt 512 f i) ≡ 0) where
+  module _ (fine : blockFault s i (length f / 512) (chunkAt 512 f i) ≡ 0) where
     pub scan-sized : Sized (chunkAt 512 f i)
     scan-sized =
         record {

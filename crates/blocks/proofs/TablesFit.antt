@@ -15,8 +15,7 @@ use Rattle.records.specs.declared.refusals.Fault.the-variants.{Nothing, Is}
 use Rattle.records.specs.declared.tables.Kind.{Kind}
 use Rattle.records.specs.declared.tables.Kind.the-variants.{Holdings, Placement, Claims}
 use Rattle.records.proofs.OrderLaws.{Pass, clear, unclear, first-append, pass-left, pass-right}
-use Rattle.blocks.specs.File.{Tables, tableOf, tablesIn, joined, blocksOf, fileChecks}
-use Rattle.blocks.specs.Writer.{fieldsOf}
+use Rattle.blocks.specs.File.{Tables, tableOf, tablesIn, joined, blocksOf, fileChecks, recordChecks}
 use Rattle.blocks.specs.Reader.{reading, readChecks, readRoom, countsOf, readOf}
 use Rattle.blocks.proofs.ReadLaws.{read-sound, records-are, within-limit, whole-table, read-done}
 
@@ -33,7 +32,7 @@ table-is Holdings f = refl
 table-is Placement f = refl
 table-is Claims f = refl
 
-fields-each : (t : Tables) → Pass (fieldsOf t) → (kind : Kind) → Pass (fieldChecks kind (tableOf kind t))
+fields-each : (t : Tables) → Pass (recordChecks t) → (kind : Kind) → Pass (fieldChecks kind (tableOf kind t))
 unfolding fieldsChecks
 fields-each t p Holdings = pass-left (fieldChecks Holdings (t .holdings)) _ p
 fields-each t p Placement =
@@ -47,7 +46,7 @@ unfolding readChecks
 tables-fit f good kind =
     let s = read-sound f good in
     let e = table-is kind f in
-    let p = pass-right (fileChecks f) (fieldsOf (tablesIn f)) (clear (fileChecks f ++ fieldsOf (tablesIn f)) good) in
+    let p = pass-right (fileChecks f) (recordChecks (tablesIn f)) (clear (fileChecks f ++ recordChecks (tablesIn f)) good) in
     record {
       most = rw e (within-limit f s kind);
       records = rw e (omega (arith, records-are f s kind));

@@ -22,8 +22,8 @@ use Rattle.records.proofs.TableLaws.{whole}
 use Rattle.records.proofs.ChunkLaws.{length-chunks}
 use Rattle.records.proofs.PutLaws.{put-next, put-put}
 use Rattle.blocks.specs.Block.{blockOf}
-use Rattle.blocks.specs.File.{Tables, tables, blockCount, blocksIn, numbered, blocksFor, flat, blocksOfKind, fileOf}
-use Rattle.blocks.specs.Writer.{takenTables, fieldsOf, writeChecks, writeRoom, writeOf}
+use Rattle.blocks.specs.File.{Tables, tables, blockCount, blocksIn, numbered, blocksFor, flat, blocksOfKind, fileOf, recordChecks}
+use Rattle.blocks.specs.Writer.{takenTables, writeChecks, writeRoom, writeOf}
 use Rattle.blocks.specs.declared.writer.Writing.the-variants.{Wrote, Refused}
 use Rattle.blocks.proofs.BlockLaws.{length-block}
 use Rattle.blocks.proofs.ListMore.{take-min, chunks-snoc, chunks-short}
@@ -158,15 +158,15 @@ module _ (t : Tables) (room : ℕ) where
   write-1 e = rw e
 
   module _ (e : takenTables (length (t .holdings)) (length (t .placement)) (length (t .claims)) ≡ true) where
-    pub write-4 : (r : Refusal) → firstOf (fieldsOf t) ≡ Is r → writeOf t room ≡ Refused r
+    pub write-4 : (r : Refusal) → firstOf (recordChecks t) ≡ Is r → writeOf t room ≡ Refused r
     unfolding writeOf writeChecks firstOf
-    write-4 r f = rw (e, first-append (fieldsOf t) (writeRoom t room), f)
+    write-4 r f = rw (e, first-append (recordChecks t) (writeRoom t room), f)
 
-    module _ (f : firstOf (fieldsOf t) ≡ Nothing) where
+    module _ (f : firstOf (recordChecks t) ≡ Nothing) where
       pub write-17 : room < 512 * blocksIn t → writeOf t room ≡ Refused (refuse 17 0 (512 * blocksIn t))
       unfolding writeOf writeChecks firstOf
-      write-17 h = rw (e, first-append (fieldsOf t) (writeRoom t room), f, length-file t, lt-leb (512 * blocksIn t) room h)
+      write-17 h = rw (e, first-append (recordChecks t) (writeRoom t room), f, length-file t, lt-leb (512 * blocksIn t) room h)
 
       pub write-done : 512 * blocksIn t ≤ room → writeOf t room ≡ Wrote (length (fileOf t))
       unfolding writeOf writeChecks firstOf
-      write-done h = rw (e, first-append (fieldsOf t) (writeRoom t room), f, length-file t, le-leb (512 * blocksIn t) room h)
+      write-done h = rw (e, first-append (recordChecks t) (writeRoom t room), f, length-file t, le-leb (512 * blocksIn t) room h)

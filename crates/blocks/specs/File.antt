@@ -8,7 +8,7 @@ use Rattle.records.specs.Chunks.{chunks}
 use Rattle.records.specs.Dates.{within}
 use Rattle.records.specs.Lists.{only, sum}
 use Rattle.records.specs.Order.{Check, ask}
-use Rattle.records.specs.Tables.{tableNumber, limitOf}
+use Rattle.records.specs.Tables.{tableNumber, limitOf, fieldsChecks}
 use Rattle.records.specs.declared.tables.Kind.{Kind}
 use Rattle.records.specs.declared.tables.Kind.the-variants.{Holdings, Placement, Claims}
 use Rattle.blocks.specs.Block.{kindOf, countOf, sumsAgree, formed, blockOf}
@@ -26,6 +26,10 @@ abbrev pub tableOf : Kind → Tables → List ℕ
 tableOf Holdings t = t .holdings
 tableOf Placement t = t .placement
 tableOf Claims t = t .claims
+
+-- refusal 4, 'then records by table'
+abbrev pub recordChecks : Tables → List Check
+recordChecks t = fieldsChecks (t .holdings) (t .placement) (t .claims)
 
 -- ---- reading
 

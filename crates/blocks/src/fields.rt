@@ -1,14 +1,11 @@
 // Refusal 4, judged on the records where they stand in the file, before anything is copied.
 ghost use mathlib.Core.Path.{_≡_};
-ghost use Prim.Native.Nat.{_+_, _*_, _/_, _%_, _≤_};
-ghost use lib.ListN.{length};
-ghost use Rattle.records.specs.Lists.{All};
+ghost use Prim.Native.Nat.{_*_, _≤_};
 ghost use Rattle.records.specs.Chunks.{recordsOf};
 ghost use Rattle.records.specs.Order.{firstOf};
 ghost use Rattle.records.specs.Tables.{goodRecord, fieldChecks};
-ghost use Rattle.blocks.specs.File.{blocksOf, countAs, joined, tablesIn};
-ghost use Rattle.blocks.specs.Writer.{fieldsOf};
-ghost use Rattle.blocks.specs.Steps.{Sized, goodFront};
+ghost use Rattle.blocks.specs.File.{blocksOf, countAs, joined, tablesIn, recordChecks};
+ghost use Rattle.blocks.specs.Steps.{Sized, SizedFile, goodFront};
 use crate::form::BLOCK_BYTES;
 use crate::form::RECORDS_AT;
 use crate::form::kind_number;
@@ -47,8 +44,7 @@ fn good_front(kind: Kind, records: &[u8]) -> usize
 
 // The first record of a kind with a field out of range, counted over the kind's blocks.
 fn kind_fault(file: &[u8], kind: Kind) -> Fault
-    requires { ⌜ (length (now file) ≤ 19968) × (length (now file) % 512 ≡ 0) ⌝ }
-    requires { ⌜ All Sized (blocksOf (now file)) ⌝ }
+    requires { ⌜ SizedFile (now file) ⌝ }
     ensures { λ r. ⌜ r ≡ firstOf (fieldChecks kind (joined kind (blocksOf (now (file .entry))))) ⌝ }
 {
     let n = file.len() / BLOCK_BYTES;
@@ -76,9 +72,8 @@ fn kind_fault(file: &[u8], kind: Kind) -> Fault
 
 // Refusal 4, by table and then by record, of a file whose blocks have no fault.
 pub(crate) fn file_fields_fault(file: &[u8]) -> Fault
-    requires { ⌜ (length (now file) ≤ 19968) × (length (now file) % 512 ≡ 0) ⌝ }
-    requires { ⌜ All Sized (blocksOf (now file)) ⌝ }
-    ensures { λ r. ⌜ r ≡ firstOf (fieldsOf (tablesIn (now (file .entry)))) ⌝ }
+    requires { ⌜ SizedFile (now file) ⌝ }
+    ensures { λ r. ⌜ r ≡ firstOf (recordChecks (tablesIn (now (file .entry)))) ⌝ }
 {
     match kind_fault(file, Kind::Holdings) {
         Fault::Is(refusal) => Fault::Is(refusal),

@@ -7,7 +7,7 @@ ghost use lib.ListN.{length};
 ghost use Rattle.records.specs.Lists.{only};
 ghost use lib.Dec.{eqb};
 ghost use Rattle.blocks.specs.File.{wholeFile};
-ghost use Rattle.blocks.specs.Steps.{Small, nothingYet, grown, mayFollow, inLimits, faultNumber, scanOf};
+ghost use Rattle.blocks.specs.Steps.{Small, nothingYet, grown, mayFollow, inLimits, blockFault, scanOf};
 use crate::checks::sums_agree;
 use crate::form::BLOCK_BYTES;
 use crate::form::FULL;
@@ -86,7 +86,7 @@ impl SoFar {
 // The refusal's number, of block `number` after those so far: 2, 3, or 0 where nothing is wrong.
 fn block_fault(seen: SoFar, block: &[u8], number: u16, blocks: u16) -> u8
     requires { ⌜ Small seen × (length (now block) ≡ 512) ⌝ }
-    ensures { λ r. ⌜ r ≡ faultNumber seen number blocks (now (block .entry)) ⌝ }
+    ensures { λ r. ⌜ r ≡ blockFault seen number blocks (now (block .entry)) ⌝ }
 {
     if sums_agree(block) {
         if well_formed(block, number, blocks) {

@@ -5,7 +5,7 @@ use mathlib.Core.List.{List}
 use Prim.Native.Nat.{ℕ}
 use lib.ListN.{length}
 use Rattle.blocks.specs.File.{wholeFile}
-use Rattle.blocks.proofs.ReadLaws.{sizes, judge-1, judge-block, scan-sound, judge-field, judge-good}
+use Rattle.blocks.proofs.ReadLaws.{sized-file, judge-1, judge-block, scan-sound, judge-field, judge-good}
 use borrow.Author.Needs.{needs}
 use Rattle.blocks.proofs.reader.judge.Statement.{statement}
 use Rattle.blocks.proofs.reader.judge.Tie as tie
@@ -23,7 +23,7 @@ file-fields-fault-requires : tie.Need-file-fields-fault-requires
 file-fields-fault-requires c κs =
     let n = c .before .before .before in
     let s = scan-sound (file (n .before .before)) (whole (n .before)) _ (sym (n .scan .ensures) ∙ c .before .counts .given .1) in
-    (sizes (file (n .before .before)) s, s .sized)
+    sized-file (file (n .before .before)) s
 
 returns : tie.Need-returns
 returns c =

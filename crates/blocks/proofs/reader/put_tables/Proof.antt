@@ -7,8 +7,9 @@ use lib.ListN.{length}
 use Rattle.records.specs.Order.{refuse}
 use Rattle.blocks.specs.File.{tablesIn}
 use Rattle.blocks.specs.Reader.{leaves}
+use Rattle.blocks.specs.Steps.{SizedFile}
 use Rattle.blocks.specs.declared.reader.Reading.the-variants.{Read, Refused}
-use Rattle.blocks.proofs.ReadLaws.{sizes, read-sound, Bytes, read-bytes, read-17-1, read-17-2, read-17-3, read-done}
+use Rattle.blocks.proofs.ReadLaws.{sized-file, read-sound, Bytes, read-bytes, read-17-1, read-17-2, read-17-3, read-done}
 use borrow.Author.Needs.{needs}
 use Rattle.blocks.proofs.reader.put_tables.Statement.{statement}
 use Rattle.blocks.proofs.reader.put_tables.Tie as tie
@@ -18,6 +19,9 @@ file z = now (z .args .file)
 
 bytes : (z : tie.Start) → Bytes (file z) (z .args .counts)
 bytes z = read-bytes (file z) (z .args .counts) (z .pre .0) (z .pre .1)
+
+sized : (z : tie.Start) → SizedFile (file z)
+sized z = sized-file (file z) (read-sound (file z) (z .pre .0))
 
 abbrev start : tie.After-struct-known3 → tie.Start
 start c = c .before .before .before .before .before .before .before
@@ -70,21 +74,21 @@ unfolding tablesIn
 copy-kind-requires c κs =
     let e3 = c .before in
     let z = start (e3 .before .before .before) in
-    (sizes (file z) (read-sound (file z) (z .pre .0)), (read-sound (file z) (z .pre .0) .sized, omega (arith, bytes z .holdings .0, e3 .before .before .if1 .left)))
+    (sized z, omega (arith, bytes z .holdings .0, e3 .before .before .if1 .left))
 
 copy-kind-requires-2 : tie.Need-copy-kind-requires-2
 unfolding tablesIn
 copy-kind-requires-2 c κs =
     let e3 = c .before .before .before .before .before in
     let z = start (e3 .before .before .before) in
-    (sizes (file z) (read-sound (file z) (z .pre .0)), (read-sound (file z) (z .pre .0) .sized, omega (arith, bytes z .placement .0, e3 .before .if2 .left)))
+    (sized z, omega (arith, bytes z .placement .0, e3 .before .if2 .left))
 
 copy-kind-requires-3 : tie.Need-copy-kind-requires-3
 unfolding tablesIn
 copy-kind-requires-3 c κs =
     let e3 = c .before .before .before .before .before .before .before .before .before in
     let z = start (e3 .before .before .before) in
-    (sizes (file z) (read-sound (file z) (z .pre .0)), (read-sound (file z) (z .pre .0) .sized, omega (arith, bytes z .claims .0, e3 .if3 .left)))
+    (sized z, omega (arith, bytes z .claims .0, e3 .if3 .left))
 
 returns-4 : tie.Need-returns-4
 unfolding leaves tablesIn

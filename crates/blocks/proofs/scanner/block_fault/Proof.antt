@@ -4,7 +4,7 @@ use Prim.Native.Nat.{_≤_}
 use native.Mathlib.Omega.{arith}
 use lib.ListN.{getD}
 use Rattle.blocks.specs.Block.{sumsAgree, formed}
-use Rattle.blocks.specs.Steps.{grown, mayFollow, inLimits, faultNumber}
+use Rattle.blocks.specs.Steps.{grown, mayFollow, inLimits, blockFault}
 use Rattle.blocks.proofs.BlockLaws.{byte-is, formed-is}
 use Rattle.blocks.proofs.ScanLaws.{grown-most}
 use borrow.Author.Needs.{needs}
@@ -37,7 +37,7 @@ in-limits-requires c κs =
     rw (w .with .ensures) (grown-most (z .args .seen) (getD (z .args .block .now) 4 0) (getD (z .args .block .now) 5 0) (z .pre .0) (few t))
 
 returns : tie.Need-returns
-unfolding faultNumber
+unfolding blockFault
 returns c =
     let l = c .before in
     let t = l .before .before .before .before .before .before in
@@ -46,7 +46,7 @@ returns c =
     rw (agree (t .before .before), form t, byte-is (start t .args .block .now) 4, byte-is (start t .args .block .now) 5, e)
 
 returns-2 : tie.Need-returns-2
-unfolding faultNumber
+unfolding blockFault
 returns-2 c =
     let l = c .before in
     let t = l .before .before .before .before .before .before in
@@ -55,7 +55,7 @@ returns-2 c =
     rw (agree (t .before .before), form t, byte-is (start t .args .block .now) 4, byte-is (start t .args .block .now) 5, e)
 
 returns-3 : tie.Need-returns-3
-unfolding faultNumber
+unfolding blockFault
 returns-3 c =
     let t = c .before .before in
     let a = t .before .before .before .args in
@@ -63,7 +63,7 @@ returns-3 c =
     rw (agree t, e)
 
 returns-4 : tie.Need-returns-4
-unfolding faultNumber
+unfolding blockFault
 returns-4 c =
     let e : sumsAgree (c .before .before .before .args .block .now) ≡ false = sym (c .before .sums-agree .ensures) ∙ c .if1 .left in
     rw e
