@@ -15,7 +15,10 @@ sums-of-requires c κs = simp length-take (omega arith)
 
 returns : tie.Need-returns
 unfolding sumsAgree
-returns c = cc
+returns c =
+    let u = c .before .before .before in
+    let s = u .before in
+    rw (c .before .u16-at2 .ensures, u .u16-at .ensures, s .sums-of .ensures .0, s .sums-of .ensures .1)
 
 pub sums-agree-spec : {M : Type 1} → statement M
 sums-agree-spec =

@@ -37,7 +37,7 @@ returns c =
     let t = c .before .before .before .before in
     let a = t .before .before .before .args in
     let e : headFits (a .number) (a .blocks) (a .block .now) ≡ true = sym (t .before .head-fits .ensures) ∙ t .if1 .taken in
-    rw (byte-is (a .block .now) 5, e) (cc)
+    rw (byte-is (a .block .now) 5, e, c .tail-fits .ensures, c .before .all-zero .ensures)
 
 returns-2 : tie.Need-returns-2
 unfolding formed
