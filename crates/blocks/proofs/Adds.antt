@@ -2,9 +2,10 @@
 use mathlib.Core.Path.{_≡_, refl, _∙_}
 use mathlib.Core.Bool.{cond}
 use mathlib.Core.List.{List, [], _∷_, _++_, append-assoc, append-nil}
-use Prim.Native.Nat.{ℕ, suc, _+_, _-_, _%_, _≤_, _<_}
+use Prim.Native.Nat.{ℕ, suc, _+_, _%_, _≤_, _<_}
 use native.Mathlib.Omega.{arith}
 use lib.Dec.{eqb}
+use borrow.Author.Tests.{eq-eqb, ne-eqb}
 use lib.ListN.{length, length-append}
 use lib.Seq.{take-all}
 use Rattle.records.specs.Chunks.{chunks}
@@ -20,6 +21,12 @@ use Rattle.blocks.proofs.WriteLaws.{numbered-append}
 -- the records where the kinds are one, and otherwise none
 abbrev pub added : Kind → Kind → List ℕ → List ℕ
 added kind k r = cond (eqb (tableNumber kind) (tableNumber k)) r []
+
+pub added-same : (kind k : Kind) (r : List ℕ) → tableNumber kind ≡ tableNumber k → added kind k r ≡ r
+added-same kind k r e = rw (eq-eqb (tableNumber kind) (tableNumber k) e)
+
+pub added-other : (kind k : Kind) (r : List ℕ) → tableNumber kind < tableNumber k → added kind k r ≡ []
+added-other kind k r h = rw (ne-eqb (tableNumber kind) (tableNumber k) (λ e. omega arith))
 
 abbrev pub add : Kind → List ℕ → Tables → Tables
 add kind r t =

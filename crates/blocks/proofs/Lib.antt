@@ -8,9 +8,11 @@ pub mod FieldLaws
 pub mod WriteLaws
 pub mod ReadLaws
 pub mod BlockTrip
+pub mod WrittenBlock
 pub mod Adds
 pub mod State
-pub mod Trip
+pub mod ReadTrip
+pub mod WriteTrip
 pub mod RoundTrips
 pub mod TablesFit
 pub mod Unique

@@ -1,12 +1,12 @@
 -- The round trips of files: specs/RoundTrips.antt's statements, proved.
 use mathlib.Core.Path.{_≡_, refl, sym, ap, _∙_}
 use mathlib.Core.Bool.{true, _&&_, not}
-use mathlib.Core.List.{List, [], _∷_, _++_, append-assoc, append-nil}
-use Prim.Native.Nat.{ℕ, zero, suc, _+_, _-_, _*_, _/_, _%_, _≤_, _<_}
+use mathlib.Core.List.{List, [], _∷_, _++_, append-assoc, append-nil, reverseAux, reverse, reverse-reverse}
+use Prim.Native.Nat.{ℕ, zero, suc, _+_, _*_, _/_, _%_, _≤_, _<_}
 use native.Mathlib.Nat.{mul-suc}
 use native.Mathlib.Omega.{arith}
 use lib.Dec.{eqb, eqb·suc-zero}
-use lib.ListN.{length, take, drop, length-drop, take-append-drop}
+use lib.ListN.{length, take, drop, length-drop, length-reverse, take-append-drop}
 use lib.Seq.{take-at, drop-at}
 use borrow.Author.Tests.{eq-eqb, le-leb}
 use Rattle.records.specs.Chunks.{chunks}
@@ -23,8 +23,9 @@ use Rattle.blocks.proofs.BlockLaws.{length-block}
 use Rattle.blocks.proofs.FileLaws.{joinedBack, whole-file}
 use Rattle.blocks.proofs.ListMore.{chunks-short, chunks-whole}
 use Rattle.blocks.proofs.ReadLaws.{Sound, sound, whole-table, read-done}
-use Rattle.blocks.proofs.State.{onto, onto-onto, State, start}
-use Rattle.blocks.proofs.Trip.{read-all, pass-onto, reach}
+use Rattle.blocks.proofs.State.{State, start}
+use Rattle.blocks.proofs.ReadTrip.{read-all}
+use Rattle.blocks.proofs.WriteTrip.{pass-reversed, reach}
 use Rattle.blocks.proofs.WriteLaws.{length-file, Taken, taken-is, write-done}
 
 -- ---- blocks joined and cut again
@@ -79,21 +80,12 @@ blocks-sized n t =
 
 -- ---- turned around
 
-length-onto : {A : Type 0} (xs ys : List A) → length (onto xs ys) ≡ length xs + length ys
-unfolding onto
-length-onto [] ys = omega arith
-length-onto (x ∷ xs) ys = length-onto xs (x ∷ ys) ∙ omega arith
-
-twice : {A : Type 0} (xs : List A) → onto (onto xs []) [] ≡ xs
-unfolding onto
-twice xs = onto-onto xs [] [] ∙ append-nil xs
-
-joined-onto : (k : Kind) (bs before : List (List ℕ)) → joinedBack k (onto bs before) ≡ joinedBack k before ++ joined k bs
-unfolding joinedBack joined onto
+joined-onto : (k : Kind) (bs before : List (List ℕ)) → joinedBack k (reverseAux bs before) ≡ joinedBack k before ++ joined k bs
+unfolding joinedBack joined
 joined-onto k [] before = sym (append-nil (joinedBack k before))
 joined-onto k (b ∷ bs) before = joined-onto k bs (b ∷ before) ∙ append-assoc (joinedBack k before) _ (joined k bs)
 
-joined-back : (k : Kind) (bs : List (List ℕ)) → joinedBack k (onto bs []) ≡ joined k bs
+joined-back : (k : Kind) (bs : List (List ℕ)) → joinedBack k (reverse bs) ≡ joined k bs
 unfolding joinedBack
 joined-back k bs = joined-onto k bs []
 
@@ -115,13 +107,13 @@ module _ (t : Tables) (w : Writes t) where
   blocks-back =
       let n = blocksIn t in
       let s = reach n t taken .state in
-      let len : length (blocksFor n t) ≡ n = rw (s .blocks) (length-onto (reach n t taken .before) [] ∙ omega (arith, s .count)) in
+      let len : length (blocksFor n t) ≡ n = rw (s .blocks) (length-reverse (reach n t taken .before) ∙ sym (s .count)) in
       rw blocks-number (ap (λ (m : ℕ). chunks 512 m (flat (blocksFor n t))) (sym len) ∙ cut-joined (blocksFor n t) (blocks-sized n t))
 
   joined-is : (k : Kind) → joined k (blocksOf (fileOf t)) ≡ tableOf k t
   joined-is k =
       let r = reach (blocksIn t) t taken in
-      rw (blocks-back, r .state .blocks) (sym (joined-back k (onto (r .before) [])) ∙ ap (joinedBack k) (twice (r .before)) ∙ sym (r .state .joins k))
+      rw (blocks-back, r .state .blocks) (sym (joined-back k (reverse (r .before))) ∙ ap (joinedBack k) (reverse-reverse (r .before)) ∙ sym (r .state .joins k))
 
   tables-back : tablesIn (fileOf t) ≡ t
   unfolding tablesIn
@@ -137,7 +129,7 @@ module _ (t : Tables) (w : Writes t) where
   unfolding fileChecks blocksChecks
   file-passes =
       let r = reach (blocksIn t) t taken in
-      (whole, rw (blocks-back, blocks-number, r .state .blocks) (pass-onto (blocksIn t) (r .before) [] (r .passed) tt))
+      (whole, rw (blocks-back, blocks-number, r .state .blocks) (pass-reversed (blocksIn t) (r .before) [] (r .passed) tt))
 
   fields-pass : Pass (recordChecks (tablesIn (fileOf t)))
   unfolding writeChecks
@@ -168,7 +160,7 @@ module _ (f : List ℕ) (a : AllBytes f) (r : Reads f) where
   fine : Sound f
   fine = sound f (both .0)
 
-  walked : (u : Tables) × State (length f / 512) (onto (blocksOf f) []) u
+  walked : (u : Tables) × State (length f / 512) (reverse (blocksOf f)) u
   walked =
       let n = length f / 512 in
       let w = whole-file (length f) (fine .whole) in
@@ -189,8 +181,8 @@ module _ (f : List ℕ) (a : AllBytes f) (r : Reads f) where
       let n = length f / 512 in
       let s = walked .1 in
       let w = whole-file (length f) (fine .whole) in
-      let count : blocksIn (walked .0) ≡ n = s .count ∙ length-onto (blocksOf f) [] ∙ omega (arith, length-chunks 512 n f) in
-      rw (← same-tables, count, s .blocks, twice (blocksOf f)) (join-cut n f (omega arith))
+      let count : blocksIn (walked .0) ≡ n = s .count ∙ length-reverse (blocksOf f) ∙ length-chunks 512 n f in
+      rw (← same-tables, count, s .blocks, reverse-reverse (blocksOf f)) (join-cut n f (omega arith))
 
   taken-back : takenTables (length (tablesIn f .holdings)) (length (tablesIn f .placement)) (length (tablesIn f .claims)) ≡ true
   unfolding takenTables tablesIn

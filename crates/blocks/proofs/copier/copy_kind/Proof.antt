@@ -9,7 +9,7 @@ use Rattle.records.specs.Written.{putAt}
 use Rattle.records.specs.declared.tables.Kind.{Kind}
 use Rattle.records.proofs.ChunkLaws.{part-is}
 use Rattle.records.proofs.PutLaws.{put-none, put-put}
-use Rattle.blocks.specs.File.{blocksOf, countAs, recordsAs, joined}
+use Rattle.blocks.specs.File.{countAs, recordsAs}
 use Rattle.blocks.specs.Steps.{Sized}
 use Rattle.blocks.proofs.FileLaws.{earlier, blocksFrom, blocks-none, sized-at, length-recordsAs, recordsAs-part, joinedBack, joinedTo, joined-next, joined-none, joined-at, joined-room}
 use borrow.Author.Needs.{needs}
