@@ -15,8 +15,8 @@ use Rattle.records.specs.declared.tables.Kind.the-variants.{Holdings, Placement
 use Rattle.records.proofs.ChunkLaws.{length-chunks}
 use Rattle.blocks.specs.Block.{blockOf}
 use Rattle.blocks.specs.File.{Tables, tables, tableOf, blockCount, blocksIn, partsOf, numbered, blocksFor}
-use Rattle.blocks.proofs.ListMore.{chunks-append}
-use Rattle.blocks.proofs.WriteLaws.{numbered-append}
+use Rattle.blocks.proofs.PartLaws.{chunks-append}
+use Rattle.blocks.proofs.FlatLaws.{numbered-append}
 
 -- the records where the kinds are one, and otherwise none
 abbrev pub added : Kind → Kind → List ℕ → List ℕ

@@ -14,7 +14,7 @@ use Rattle.records.specs.declared.tables.Kind.{Kind}
 use Rattle.blocks.specs.File.{countAs, recordsAs, joined}
 use Rattle.blocks.specs.Steps.{goodFront, Sized}
 use Rattle.blocks.proofs.FileLaws.{length-recordsAs, joined-step}
-use Rattle.blocks.proofs.ListMore.{chunks-append}
+use Rattle.blocks.proofs.PartLaws.{chunks-append}
 
 module _ {A : Type 0} (good : A → Bool) where
   pub front-go : (x : A) (l ls : List A) → l ≡ x ∷ ls → good x ≡ true → goodFront good l ≡ 1 + goodFront good ls

@@ -17,7 +17,7 @@ use Rattle.records.proofs.ChunkLaws.{chunks-all, chunks-step, chunks-none}
 use Rattle.blocks.specs.Block.{kindOf, countOf}
 use Rattle.blocks.specs.File.{wholeFile, blocksOf, countAs, recordsAs, joined}
 use Rattle.blocks.specs.Steps.{Sized, SizedFile}
-use Rattle.blocks.proofs.ListMore.{take-part, all-chunk}
+use Rattle.blocks.proofs.PartLaws.{take-part, all-chunk}
 
 -- so many whole records are a whole table just where they are within its limit
 pub fits-is : (kind : Kind) (n : ℕ) → wholeTable kind (32 * n) ≡ leb n (limitOf kind)

@@ -1,11 +1,13 @@
 pub mod SumLaws
 pub mod SameLaws
-pub mod ListMore
+pub mod PartLaws
 pub mod BlockLaws
 pub mod FileLaws
 pub mod ScanLaws
 pub mod FieldLaws
+pub mod FlatLaws
 pub mod WriteLaws
+pub mod SoundFile
 pub mod ReadLaws
 pub mod BlockTrip
 pub mod WrittenBlock

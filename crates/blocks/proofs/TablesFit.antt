@@ -17,7 +17,8 @@ use Rattle.records.specs.declared.tables.Kind.the-variants.{Holdings, Placement
 use Rattle.records.proofs.OrderLaws.{Pass, clear, unclear, first-append, pass-left, pass-right}
 use Rattle.blocks.specs.File.{Tables, tableOf, tablesIn, joined, blocksOf, fileChecks, recordChecks}
 use Rattle.blocks.specs.Reader.{reading, readChecks, readRoom, countsOf, readOf}
-use Rattle.blocks.proofs.ReadLaws.{read-sound, records-are, within-limit, whole-table, read-done}
+use Rattle.blocks.proofs.SoundFile.{records-are, within-limit, whole-table, read-sound}
+use Rattle.blocks.proofs.ReadLaws.{read-done}
 
 -- a table of whole records, within its limit, every field in its range
 pub record Fit (kind : Kind) (xs : List ℕ) : Type 0 where

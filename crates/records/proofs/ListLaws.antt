@@ -22,6 +22,10 @@ module _ {A : Type 0} where
   all-zip [] f a b = tt
   all-zip (x ∷ xs) f a b = (f x (a .0) (b .0), all-zip xs f (a .1) (b .1))
 
+  pub all-append : (P : A → Type 0) (a b : List A) → All P a → All P b → All P (a ++ b)
+  all-append P [] b p q = q
+  all-append P (x ∷ a) b p q = (p .0, all-append P a b (p .1) q)
+
   pub every : {P : A → Type 0} (l : List A) → ((x : A) → P x) → All P l
   every [] f = tt
   every (x ∷ xs) f = (f x, every xs f)

@@ -5,7 +5,8 @@ use mathlib.Core.List.{List}
 use Prim.Native.Nat.{ℕ}
 use lib.ListN.{length}
 use Rattle.blocks.specs.File.{wholeFile}
-use Rattle.blocks.proofs.ReadLaws.{sized-file, judge-1, judge-block, scan-sound, judge-field, judge-good}
+use Rattle.blocks.proofs.SoundFile.{sized-file}
+use Rattle.blocks.proofs.ReadLaws.{judge-1, judge-block, scan-sound, judge-field, judge-good}
 use borrow.Author.Needs.{needs}
 use Rattle.blocks.proofs.reader.judge.Statement.{statement}
 use Rattle.blocks.proofs.reader.judge.Tie as tie

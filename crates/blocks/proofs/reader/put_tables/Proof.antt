@@ -9,7 +9,8 @@ use Rattle.blocks.specs.File.{tablesIn}
 use Rattle.blocks.specs.Reader.{leaves}
 use Rattle.blocks.specs.Steps.{SizedFile}
 use Rattle.blocks.specs.declared.reader.Reading.the-variants.{Read, Refused}
-use Rattle.blocks.proofs.ReadLaws.{sized-file, read-sound, Bytes, read-bytes, read-17-1, read-17-2, read-17-3, read-done}
+use Rattle.blocks.proofs.SoundFile.{sized-file, read-sound}
+use Rattle.blocks.proofs.ReadLaws.{Bytes, read-bytes, read-17-1, read-17-2, read-17-3, read-done}
 use borrow.Author.Needs.{needs}
 use Rattle.blocks.proofs.reader.put_tables.Statement.{statement}
 use Rattle.blocks.proofs.reader.put_tables.Tie as tie

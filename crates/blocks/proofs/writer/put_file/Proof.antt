@@ -1,6 +1,7 @@
 use native.Mathlib.Omega.{arith}
 use Rattle.blocks.specs.File.{tables}
-use Rattle.blocks.proofs.WriteLaws.{length-file, file-put}
+use Rattle.blocks.proofs.FlatLaws.{length-file}
+use Rattle.blocks.proofs.WriteLaws.{file-put}
 use borrow.Author.Needs.{needs}
 use Rattle.blocks.proofs.writer.put_file.Statement.{statement}
 use Rattle.blocks.proofs.writer.put_file.Tie as tie

@@ -1,4 +1,4 @@
--- Laws on lists, their parts and what is written into them, over any length and size.
+-- Parts of a list, over any length and size: two that are one, parts of one size, and what holds of each.
 use mathlib.Core.Path.{_≡_, sym, ap, _∙_}
 use mathlib.Core.List.{List, [], _∷_, _++_}
 use Prim.Native.Nat.{ℕ, zero, suc, _+_, _-_, _*_, _≤_, _<_, min}
@@ -65,3 +65,20 @@ chunks-whole size zero xs h = tt
 chunks-whole size (suc n) xs h =
     let g : size * n + size ≤ length xs = omega (arith, mul-suc size n) in
     (simp length-take (omega arith), chunks-whole size n (drop size xs) (simp length-drop (omega arith)))
+
+-- what holds of every element holds of those of every part
+module _ {A : Type 0} (P : A → Type 0) where
+  all-take : (n : ℕ) (xs : List A) → All P xs → All P (take n xs)
+  all-take zero xs a = tt
+  all-take (suc n) [] a = tt
+  all-take (suc n) (x ∷ xs) a = (a .0, all-take n xs (a .1))
+
+  all-drop : (n : ℕ) (xs : List A) → All P xs → All P (drop n xs)
+  all-drop zero xs a = a
+  all-drop (suc n) [] a = tt
+  all-drop (suc n) (x ∷ xs) a = all-drop n xs (a .1)
+
+pub chunks-each : (P : ℕ → Type 0) (size n : ℕ) (xs : List ℕ) → All P xs → All (All P) (chunks size n xs)
+unfolding chunks
+chunks-each P size zero xs a = tt
+chunks-each P size (suc n) xs a = (all-take P size xs a, chunks-each P size n (drop size xs) (all-drop P size xs a))
