@@ -14,6 +14,7 @@ pub mod WrittenBlock
 pub mod Adds
 pub mod State
 pub mod ReadTrip
+pub mod WriteStep
 pub mod WriteTrip
 pub mod RoundTrips
 pub mod TablesFit

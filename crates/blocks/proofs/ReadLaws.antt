@@ -19,15 +19,17 @@ use Rattle.blocks.specs.declared.reader.Counts.{Counts}
 use Rattle.blocks.specs.declared.reader.Reading.the-variants.{Read, Refused}
 use Rattle.blocks.proofs.SoundFile.{Sound, file-sound, records-are, within-limit, read-sound}
 
+-- what an answer says of the first fault
+
+reading-read : (x : Fault) (m n : Counts) → reading x m ≡ Read n → (x ≡ Nothing) × (m ≡ n)
+reading-read Nothing m n e = (refl, cc)
+reading-read (Is r) m n e = absurd (let z : _≡_ {A = ℕ} 0 1 = cc in omega arith)
+
+reading-refused : (x : Fault) (m : Counts) (r : Refusal) → reading x m ≡ Refused r → x ≡ Is r
+reading-refused Nothing m r e = absurd (let z : _≡_ {A = ℕ} 0 1 = cc in omega arith)
+reading-refused (Is q) m r e = cc
+
 -- ---- refusals 1 to 4
-
-scan-by : (x : Fault) (m n : Counts) → reading x m ≡ Read n → (x ≡ Nothing) × (m ≡ n)
-scan-by Nothing m n e = (refl, cc)
-scan-by (Is r) m n e = absurd (let z : _≡_ {A = ℕ} 0 1 = cc in omega arith)
-
-scan-refused : (x : Fault) (m : Counts) (r : Refusal) → reading x m ≡ Refused r → x ≡ Is r
-scan-refused Nothing m r e = absurd (let z : _≡_ {A = ℕ} 0 1 = cc in omega arith)
-scan-refused (Is q) m r e = cc
 
 module _ (f : List ℕ) where
   pub judge-1 : wholeFile (length f) ≡ false → judged f ≡ Refused (refuse 1 0 0)
@@ -41,12 +43,12 @@ module _ (f : List ℕ) where
 
     pub judge-block : (r : Refusal) → scanOf f ≡ Refused r → judged f ≡ Refused r
     unfolding judged scanOf
-    judge-block r e = rw (checks-are, scan-refused (firstOf (blocksChecks (length f / 512) [] (blocksOf f))) (countsOf (tablesIn f)) r e)
+    judge-block r e = rw (checks-are, reading-refused (firstOf (blocksChecks (length f / 512) [] (blocksOf f))) (countsOf (tablesIn f)) r e)
 
     module _ (n : Counts) (e : scanOf f ≡ Read n) where
       passed : (firstOf (blocksChecks (length f / 512) [] (blocksOf f)) ≡ Nothing) × (countsOf (tablesIn f) ≡ n)
       unfolding scanOf
-      passed = scan-by _ _ n e
+      passed = reading-read _ _ n e
 
       pub scan-sound : Sound f
       scan-sound = file-sound f w (passed .0)
@@ -82,11 +84,11 @@ read-bytes f n good e =
 
 pub judged-good : (f : List ℕ) (n : Counts) → judged f ≡ Read n → (firstOf (readChecks f) ≡ Nothing) × (countsOf (tablesIn f) ≡ n)
 unfolding judged
-judged-good f n e = scan-by _ _ n e
+judged-good f n e = reading-read _ _ n e
 
 pub read-refused : (f : List ℕ) (h p c : ℕ) (r : Refusal) → judged f ≡ Refused r → readOf f h p c ≡ Refused r
 unfolding judged readOf
-read-refused f h p c r e = rw (first-append (readChecks f) (readRoom (tablesIn f) h p c), scan-refused (firstOf (readChecks f)) (countsOf (tablesIn f)) r e)
+read-refused f h p c r e = rw (first-append (readChecks f) (readRoom (tablesIn f) h p c), reading-refused (firstOf (readChecks f)) (countsOf (tablesIn f)) r e)
 
 module _ (f : List ℕ) (h p c : ℕ) (good : firstOf (readChecks f) ≡ Nothing) where
   read-room : readOf f h p c ≡ reading (firstOf (readRoom (tablesIn f) h p c)) (countsOf (tablesIn f))

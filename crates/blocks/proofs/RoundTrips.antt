@@ -23,7 +23,8 @@ use Rattle.blocks.proofs.ReadLaws.{read-done}
 use Rattle.blocks.proofs.SoundFile.{Sound, sound, whole-table}
 use Rattle.blocks.proofs.State.{State, start}
 use Rattle.blocks.proofs.ReadTrip.{read-all}
-use Rattle.blocks.proofs.WriteTrip.{pass-reversed, reach}
+use Rattle.blocks.proofs.WriteStep.{pass-reversed}
+use Rattle.blocks.proofs.WriteTrip.{reach}
 use Rattle.blocks.proofs.WriteLaws.{Taken, taken-is, write-done}
 
 -- ---- turned around

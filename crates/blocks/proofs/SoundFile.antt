@@ -1,11 +1,11 @@
 -- What holds of a file whose blocks have no fault: each block has its size, each table is whole and within its limit.
 use mathlib.Core.Path.{_≡_, refl}
-use mathlib.Core.Bool.{true, _&&_, and-eq-true-iff}
+use mathlib.Core.Bool.{true}
 use mathlib.Core.List.{List, [], _∷_, _++_}
 use Prim.Native.Nat.{ℕ, _+_, _*_, _/_, _%_, _≤_}
 use native.Mathlib.Omega.{arith}
 use lib.ListN.{length, length-append}
-use borrow.Author.Tests.{leb-true, le-leb, eq-eqb}
+use borrow.Author.Tests.{le-leb, eq-eqb}
 use Rattle.records.specs.Lists.{sum, All}
 use Rattle.records.specs.Order.{firstOf}
 use Rattle.records.specs.Tables.{limitOf, wholeTable}
@@ -13,12 +13,13 @@ use Rattle.records.specs.declared.refusals.Fault.the-variants.{Nothing}
 use Rattle.records.specs.declared.tables.Kind.{Kind}
 use Rattle.records.specs.declared.tables.Kind.the-variants.{Holdings, Placement, Claims}
 use Rattle.records.proofs.OrderLaws.{Pass, clear, unclear, pass-left}
-use Rattle.blocks.specs.File.{wholeFile, blocksOf, countAs, recordsAs, joined, tablesIn, fits, withinLimits, blockChecks, blocksChecks, fileChecks, recordChecks}
+use Rattle.blocks.specs.File.{wholeFile, blocksOf, countAs, recordsAs, joined, tablesIn, withinLimits, blockChecks, blocksChecks, fileChecks, recordChecks}
 use Rattle.blocks.specs.Reader.{readChecks}
-use Rattle.blocks.specs.Steps.{Sized, SizedFile}
+use Rattle.blocks.specs.Steps.{Sized, SizedFile, soFar}
 use Rattle.blocks.proofs.BlockLaws.{formed-is}
 use Rattle.blocks.proofs.FileLaws.{whole-file, length-recordsAs}
 use Rattle.blocks.proofs.PartLaws.{chunks-whole}
+use Rattle.blocks.proofs.ScanLaws.{in-limits}
 
 -- ---- the blocks
 
@@ -29,19 +30,17 @@ blocks-sized n before [] p s = tt
 blocks-sized n before (b ∷ bs) p s =
     (record { size = s .0; few = formed-is (length before) n b (p .1 .0) .0 .count .1 }, blocks-sized n (b ∷ before) bs (p .1 .1 .1 .1) (s .1))
 
-pub length-joined : (kind : Kind) (bs : List (List ℕ)) → All Sized bs → length (joined kind bs) ≡ 32 * sum (countAs kind) bs
+length-joined : (kind : Kind) (bs : List (List ℕ)) → All Sized bs → length (joined kind bs) ≡ 32 * sum (countAs kind) bs
 unfolding joined sum
 length-joined kind [] s = refl
 length-joined kind (b ∷ bs) s =
     rw (length-append (recordsAs kind b) (joined kind bs)) (omega (arith, length-recordsAs kind b (s .0), length-joined kind bs (s .1)))
 
-pub limits-are : (bs : List (List ℕ)) → withinLimits bs ≡ true → (kind : Kind) → sum (countAs kind) bs ≤ limitOf kind
+limits-are : (bs : List (List ℕ)) → withinLimits bs ≡ true → (kind : Kind) → sum (countAs kind) bs ≤ limitOf kind
 unfolding withinLimits
-limits-are bs e Holdings =
-    leb-true (sum (countAs Holdings) bs) 256 (and-eq-true-iff (fits Holdings bs) (fits Placement bs) .0 (and-eq-true-iff (fits Holdings bs && fits Placement bs) (fits Claims bs) .0 e .0) .0)
-limits-are bs e Placement =
-    leb-true (sum (countAs Placement) bs) 256 (and-eq-true-iff (fits Holdings bs) (fits Placement bs) .0 (and-eq-true-iff (fits Holdings bs && fits Placement bs) (fits Claims bs) .0 e .0) .1)
-limits-are bs e Claims = leb-true (sum (countAs Claims) bs) 32 (and-eq-true-iff (fits Holdings bs && fits Placement bs) (fits Claims bs) .0 e .1)
+limits-are bs e Holdings = in-limits (soFar bs) e .holdings
+limits-are bs e Placement = in-limits (soFar bs) e .placement
+limits-are bs e Claims = in-limits (soFar bs) e .claims
 
 -- no table is over its limit at the end
 blocks-limits : (kind : Kind) (n : ℕ) (before bs : List (List ℕ)) → Pass (blocksChecks n before bs)
