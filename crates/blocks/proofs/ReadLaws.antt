@@ -95,20 +95,22 @@ module _ (f : List ℕ) (h p c : ℕ) (good : firstOf (readChecks f) ≡ Nothing
   unfolding readOf
   read-room = rw (first-append (readChecks f) (readRoom (tablesIn f) h p c), good)
 
-  pub read-17-1 : h < length (tablesIn f .holdings) → readOf f h p c ≡ Refused (refuse 17 1 (length (tablesIn f .holdings)))
+  pub read-done : length (tablesIn f .holdings) ≤ h → length (tablesIn f .placement) ≤ p → length (tablesIn f .claims) ≤ c
+      → readOf f h p c ≡ Read (countsOf (tablesIn f))
   unfolding firstOf
-  read-17-1 x = read-room ∙ rw (lt-leb (length (tablesIn f .holdings)) h x)
+  read-done rh rp rc = read-room ∙ rw (le-leb (length (tablesIn f .holdings)) h rh, le-leb (length (tablesIn f .placement)) p rp, le-leb (length (tablesIn f .claims)) c rc)
 
-  module _ (rh : length (tablesIn f .holdings) ≤ h) where
-    pub read-17-2 : p < length (tablesIn f .placement) → readOf f h p c ≡ Refused (refuse 17 2 (length (tablesIn f .placement)))
+  -- refusal 17, at the first table that is shorter than so many records
+  module _ (n : Counts) (b : Bytes f n) where
+    pub short-1 : h < 32 * n .holdings → readOf f h p c ≡ Refused (refuse 17 1 (32 * n .holdings))
     unfolding firstOf
-    read-17-2 x = read-room ∙ rw (le-leb (length (tablesIn f .holdings)) h rh, lt-leb (length (tablesIn f .placement)) p x)
+    short-1 x = read-room ∙ rw (← (b .holdings .0), lt-leb (32 * n .holdings) h x)
 
-    module _ (rp : length (tablesIn f .placement) ≤ p) where
-      pub read-17-3 : c < length (tablesIn f .claims) → readOf f h p c ≡ Refused (refuse 17 3 (length (tablesIn f .claims)))
+    module _ (rh : 32 * n .holdings ≤ h) where
+      pub short-2 : p < 32 * n .placement → readOf f h p c ≡ Refused (refuse 17 2 (32 * n .placement))
       unfolding firstOf
-      read-17-3 x = read-room ∙ rw (le-leb (length (tablesIn f .holdings)) h rh, le-leb (length (tablesIn f .placement)) p rp, lt-leb (length (tablesIn f .claims)) c x)
+      short-2 x = read-room ∙ rw (← (b .holdings .0), le-leb (32 * n .holdings) h rh, ← (b .placement .0), lt-leb (32 * n .placement) p x)
 
-      pub read-done : length (tablesIn f .claims) ≤ c → readOf f h p c ≡ Read (countsOf (tablesIn f))
+      pub short-3 : 32 * n .placement ≤ p → c < 32 * n .claims → readOf f h p c ≡ Refused (refuse 17 3 (32 * n .claims))
       unfolding firstOf
-      read-done x = read-room ∙ rw (le-leb (length (tablesIn f .holdings)) h rh, le-leb (length (tablesIn f .placement)) p rp, le-leb (length (tablesIn f .claims)) c x)
+      short-3 rp x = read-room ∙ rw (← (b .holdings .0), le-leb (32 * n .holdings) h rh, ← (b .placement .0), le-leb (32 * n .placement) p rp, ← (b .claims .0), lt-leb (32 * n .claims) c x)
