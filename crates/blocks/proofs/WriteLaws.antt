@@ -74,22 +74,24 @@ file-parts : (n : ℕ) (h p c : List ℕ)
 unfolding blocksFor blocksOfKind
 file-parts n h p c = simp flat-append
 
-pub file-put : (d d₁ d₂ d₃ h p c : List ℕ) (a b : ℕ)
-    → d₁ ≡ putAt d 0 (blocksOfKind 1 0 (blocksIn (tables h p c)) h) → a ≡ 0 + 512 * blockCount (length h)
-    → d₂ ≡ putAt d₁ a (blocksOfKind 2 (blockCount (length h)) (blocksIn (tables h p c)) p) → b ≡ a + 512 * blockCount (length p)
-    → d₃ ≡ putAt d₂ b (blocksOfKind 3 (blockCount (length h) + blockCount (length p)) (blocksIn (tables h p c)) c)
+-- the three kinds' writes, one after another, with the numbers of blocks that were counted
+pub file-put : (d d₁ d₂ d₃ h p c : List ℕ) (a b m₁ m₂ n : ℕ)
+    → m₁ ≡ blockCount (length h) → m₂ ≡ blockCount (length p) → n ≡ blocksIn (tables h p c)
+    → d₁ ≡ putAt d 0 (blocksOfKind 1 0 n h) → a ≡ 0 + 512 * blockCount (length h)
+    → d₂ ≡ putAt d₁ a (blocksOfKind 2 m₁ n p) → b ≡ a + 512 * blockCount (length p)
+    → d₃ ≡ putAt d₂ b (blocksOfKind 3 (m₁ + m₂) n c)
     → d₃ ≡ putAt d 0 (fileOf (tables h p c))
 unfolding fileOf
-file-put d d₁ d₂ d₃ h p c a b e₁ ea e₂ eb e₃ =
-    let n = blocksIn (tables h p c) in
-    let B₁ = blocksOfKind 1 0 n h in
-    let B₂ = blocksOfKind 2 (blockCount (length h)) n p in
-    let B₃ = blocksOfKind 3 (blockCount (length h) + blockCount (length p)) n c in
-    let l₁ = length-kind 1 0 n h in
-    let l₂ = length-kind 2 (blockCount (length h)) n p in
-    let two : d₂ ≡ putAt d 0 (B₁ ++ B₂) = rw (e₂, e₁) (put-put d B₁ B₂ 0 a (omega arith) (omega (arith, l₁))) in
+file-put d d₁ d₂ d₃ h p c a b m₁ m₂ n k₁ k₂ k e₁ ea e₂ eb e₃ =
+    let N = blocksIn (tables h p c) in
+    let B₁ = blocksOfKind 1 0 N h in
+    let B₂ = blocksOfKind 2 (blockCount (length h)) N p in
+    let B₃ = blocksOfKind 3 (blockCount (length h) + blockCount (length p)) N c in
+    let l₁ = length-kind 1 0 N h in
+    let l₂ = length-kind 2 (blockCount (length h)) N p in
+    let two : d₂ ≡ putAt d 0 (B₁ ++ B₂) = rw (e₂, e₁, k₁, k) (put-put d B₁ B₂ 0 a (omega arith) (omega (arith, l₁))) in
     let lb : b ≡ 0 + length (B₁ ++ B₂) = simp length-append (omega (arith, l₁, l₂)) in
-    rw (e₃, two) (put-put d (B₁ ++ B₂) B₃ 0 b (omega arith) lb ∙ ap (putAt d 0) (append-assoc B₁ B₂ B₃ ∙ sym (file-parts n h p c)))
+    rw (e₃, two, k₁, k₂, k) (put-put d (B₁ ++ B₂) B₃ 0 b (omega arith) lb ∙ ap (putAt d 0) (append-assoc B₁ B₂ B₃ ∙ sym (file-parts N h p c)))
 
 -- ---- what the writer answers
 
