@@ -1,6 +1,6 @@
 -- A file's blocks: those before block i, a kind's records in them, and which size they have.
 use mathlib.Core.Path.{_≡_, refl, sym, ap, _∙_}
-use mathlib.Core.Bool.{Bool, true, false, _&&_, and-eq-true-iff}
+use mathlib.Core.Bool.{true, _&&_, and-eq-true-iff}
 use mathlib.Core.List.{List, [], _∷_, _++_, append-assoc}
 use Prim.Native.Nat.{ℕ, zero, suc, _+_, _-_, _*_, _/_, _%_, _≤_, _<_}
 use native.Mathlib.Numerals.{add-one}
@@ -10,9 +10,9 @@ use lib.ListN.{length, take, drop, length-append, length-take, length-drop}
 use lib.Seq.{drop-drop}
 use borrow.Author.Tests.{eqb-true, leb-true, eq-eqb}
 use Rattle.records.specs.Chunks.{chunkAt, chunksFrom}
-use Rattle.records.specs.Lists.{only}
 use Rattle.records.specs.Tables.{wholeTable, limitOf, tableNumber}
 use Rattle.records.specs.declared.tables.Kind.{Kind}
+use Rattle.records.proofs.ListLaws.{only-le}
 use Rattle.records.proofs.ChunkLaws.{chunks-all, chunks-step, chunks-none}
 use Rattle.blocks.specs.Block.{kindOf, countOf}
 use Rattle.blocks.specs.File.{wholeFile, blocksOf, countAs, recordsAs, joined}
@@ -30,10 +30,6 @@ whole-file bytes e =
     let p = and-eq-true-iff (eqb (bytes % 512) 0) (leb 1 (bytes / 512) && leb (bytes / 512) 39) .0 e in
     let q = and-eq-true-iff (leb 1 (bytes / 512)) (leb (bytes / 512) 39) .0 (p .1) in
     (eqb-true (bytes % 512) 0 (p .0), leb-true 1 (bytes / 512) (q .0), leb-true (bytes / 512) 39 (q .1))
-
-pub only-le : (t : Bool) (x : ℕ) → only t x ≤ x
-only-le true x = omega arith
-only-le false x = omega arith
 
 -- ---- block i and those before it
 

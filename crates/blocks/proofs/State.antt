@@ -75,8 +75,8 @@ module _ (n : ℕ) (before : List (List ℕ)) (t : Tables) (st : State n before 
       go true = isRecords
       go false = refl
 
-  counted : (k : Kind) → 32 * countAs k b ≡ length (added kind k r)
-  counted k = rw isKind (go (eqb (tableNumber kind) (tableNumber k)))
+  count-added : (k : Kind) → 32 * countAs k b ≡ length (added kind k r)
+  count-added k = rw isKind (go (eqb (tableNumber kind) (tableNumber k)))
     where
       go : (q : Bool) → 32 * only q (countOf b) ≡ length (cond q r [])
       go true = rw isCount (sym len)
@@ -90,7 +90,7 @@ module _ (n : ℕ) (before : List (List ℕ)) (t : Tables) (st : State n before 
         joins = λ k. table-add kind k r t ∙ rw (st .joins k, records-added k);
         blocks = a .0 ∙ rw (st .count, st .blocks, ← isBlock) (sym (reverse-cons b before));
         count = a .1 ∙ ap suc (st .count);
-        sums = λ k. rw (table-add kind k r t, length-append (tableOf k t) (added kind k r)) (omega (arith, st .sums k, counted k));
+        sums = λ k. rw (table-add kind k r t, length-append (tableOf k t) (added kind k r)) (omega (arith, st .sums k, count-added k));
         range = rw isKind (number-range kind .1);
         later = λ k h. table-add kind k r t ∙ rw (may .later k (rw isKind at h), added-other kind k r (rw isKind at h));
         last = λ k e.

@@ -1,11 +1,9 @@
 -- Writing: the blocks that the writer makes of whole tables within their limits pass.
 use mathlib.Core.Path.{_≡_, refl, sym, ap, _∙_}
-use mathlib.Core.Bool.{Bool, true, false, cond}
-use mathlib.Core.List.{List, [], _++_, append-assoc, append-nil}
+use mathlib.Core.List.{List, [], _++_, append-nil}
 use Prim.Native.Nat.{ℕ, zero, suc, _+_, _-_, _*_, _/_, _%_, _≤_, min}
 use native.Mathlib.Nat.{mul-suc}
 use native.Mathlib.Omega.{arith}
-use lib.Dec.{eqb}
 use lib.ListN.{length, take, length-append, length-take, length-drop}
 use lib.Seq.{take-all, take-add}
 use Rattle.records.specs.Chunks.{chunkAt}
@@ -14,7 +12,7 @@ use Rattle.records.specs.declared.tables.Kind.{Kind}
 use Rattle.records.specs.declared.tables.Kind.the-variants.{Holdings, Placement, Claims}
 use Rattle.blocks.specs.File.{Tables, tables, tableOf, blockCount}
 use Rattle.blocks.proofs.WriteLaws.{Taken}
-use Rattle.blocks.proofs.Adds.{added, added-same, added-other, add, table-add, May}
+use Rattle.blocks.proofs.Adds.{added, added-same, added-other, added-short, add, table-add, add-none, add-add, May}
 use Rattle.blocks.proofs.State.{none-of, start}
 use Rattle.blocks.proofs.WriteStep.{PassBack, Reach, write-one}
 
@@ -39,24 +37,6 @@ part-sizes x j whole h =
       records = omega arith;
       next = rw (mul-suc 480 j) (take-add (480 * j) 480 x);
     }
-
--- nothing added, and one thing added after another
-add-none : (kind : Kind) (t : Tables) → add kind [] t ≡ t
-add-none Holdings t = simp append-nil
-add-none Placement t = simp append-nil
-add-none Claims t = simp append-nil
-
-add-add : (kind : Kind) (x r : List ℕ) (t : Tables) → add kind r (add kind x t) ≡ add kind (x ++ r) t
-add-add Holdings x r t = simp (append-assoc, append-nil)
-add-add Placement x r t = simp (append-assoc, append-nil)
-add-add Claims x r t = simp (append-assoc, append-nil)
-
-added-short : (kind k : Kind) (y x : List ℕ) → length y ≤ length x → length (added kind k y) ≤ length (added kind k x)
-added-short kind k y x h = go (eqb (tableNumber kind) (tableNumber k))
-  where
-    go : (q : Bool) → length (cond q y []) ≤ length (cond q x [])
-    go true = h
-    go false = omega arith
 
 -- x is the table of a kind of which, as of those after it, there is nothing yet
 module _ (n : ℕ) (kind : Kind) (x : List ℕ) (t : Tables) (empty : (k : Kind) → tableNumber kind ≤ tableNumber k → tableOf k t ≡ [])

@@ -1,7 +1,7 @@
 -- Laws of sums, greatest values, choices and claims about all, over any list.
 use mathlib.Core.Path.{_≡_, refl}
 use mathlib.Core.Bool.{Bool, true, false, cond, not, and-eq-true-iff}
-use mathlib.Core.List.{List, [], _∷_, _++_, List·Memᴰ, List·Memᴰ·head, List·Memᴰ·tail}
+use mathlib.Core.List.{List, [], _∷_, _++_, map, List·Memᴰ, List·Memᴰ·head, List·Memᴰ·tail}
 use Prim.Native.Nat.{ℕ, suc, _+_, _*_, _≤_, _<_, max}
 use native.Mathlib.Nat.{le-trans, le-max-left, le-max-right}
 use native.Mathlib.Decide.{decLe}
@@ -12,6 +12,14 @@ use Rattle.records.specs.Lists.{only, sum, most, keep, allb, All}
 pub only-split : (b : Bool) (n : ℕ) → n ≡ only b n + only (not b) n
 only-split true n = omega arith
 only-split false n = omega arith
+
+pub only-le : (b : Bool) (n : ℕ) → only b n ≤ n
+only-le true n = omega arith
+only-le false n = omega arith
+
+pub map-all : {A B : Type 0} (f : A → B) (P : B → Type 0) (Q : A → Type 0) (l : List A) → ((x : A) → Q x → P (f x)) → All Q l → All P (map f l)
+map-all f P Q [] h a = tt
+map-all f P Q (x ∷ l) h a = (h x (a .0), map-all f P Q l h (a .1))
 
 module _ {A : Type 0} where
   pub all-map : {P Q : A → Type 0} (l : List A) → ((x : A) → P x → Q x) → All P l → All Q l
