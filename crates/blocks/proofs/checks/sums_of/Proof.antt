@@ -21,15 +21,6 @@ loop-holds : tie.Need-loop-holds Inv-loop μ-loop
 unfolding byteSum weightedSum
 loop-holds c = search needs
 
-cast-a : tie.Need-cast-a Inv-loop μ-loop
-cast-a c = omega (arith, c .shared-slice-known .given (c .before .before .loop .i))
-
-add-a : tie.Need-add-a Inv-loop μ-loop
-add-a c = omega (arith, c .shared-slice-known .given (c .before .before .loop .i))
-
-add-b : tie.Need-add-b Inv-loop μ-loop
-add-b c = omega (arith, c .shared-slice-known .given (c .before .before .loop .i))
-
 loop-again : tie.Need-loop-again Inv-loop μ-loop
 loop-again c = omega (arith, c .shared-slice-known .given (c .before .before .loop .i), byteSum-more (c .before .before .before .args .s .now) (c .before .before .loop .i) (c .before .loop-test .taken), weightedSum-more (c .before .before .before .args .s .now) (c .before .before .loop .i) (c .before .loop-test .taken))
 
@@ -47,9 +38,9 @@ sums-of-spec =
     μ-loop
     loop-holds
     (λ c. search needs)
-    cast-a
-    add-a
-    add-b
+    (λ c. omega (arith, c .shared-slice-known .given (c .before .before .loop .i)))
+    (λ c. omega (arith, c .shared-slice-known .given (c .before .before .loop .i)))
+    (λ c. omega (arith, c .shared-slice-known .given (c .before .before .loop .i)))
     (λ c. search needs)
     (λ c. search needs)
     loop-again

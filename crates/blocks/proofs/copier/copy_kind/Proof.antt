@@ -73,9 +73,6 @@ bytes-as-requires c κs =
     let t = c .before in
     rw (part-is 512 (t .before .loop .i) (file t)) (sized t)
 
-copy-to-requires : tie.Need-copy-to-requires Inv-loop μ-loop
-copy-to-requires c κs = rw (part (c .before .before)) (room (c .before .before))
-
 add-at : tie.Need-add-at Inv-loop μ-loop
 add-at c =
     let b = c .before .before .before .before .before in
@@ -99,9 +96,6 @@ loop-again c =
           ∙ ap (λ (d : List ℕ). putAt d (l .at) r) (l .inv .4)
           ∙ put-put (now (start t .args .table)) back r 0 (l .at) (omega arith) (omega (arith, l .inv .2))),
     )
-
-same-length : tie.Need-same-length Inv-loop μ-loop
-same-length c = c .before .loop .inv .3
 
 returns : tie.Need-returns Inv-loop μ-loop
 returns c =
@@ -130,10 +124,10 @@ copy-kind-spec =
     (λ c. omega arith)
     (λ c. omega arith)
     (λ c. omega arith)
-    copy-to-requires
+    (λ c κs. rw (part (c .before .before)) (room (c .before .before)))
     add-at
     (λ c. omega arith)
     (λ c. omega arith)
     loop-again
-    same-length
+    (λ c. c .before .loop .inv .3)
     returns)

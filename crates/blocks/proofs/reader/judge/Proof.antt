@@ -17,9 +17,6 @@ file c = now (c .before .before .args .file)
 whole : (c : tie.Then1) → wholeFile (length (file (c .before))) ≡ true
 whole c = sym (c .before .whole-file .ensures) ∙ c .if1 .taken
 
-scan-requires : tie.Need-scan-requires
-scan-requires c κs = whole c
-
 file-fields-fault-requires : tie.Need-file-fields-fault-requires
 file-fields-fault-requires c κs =
     let n = c .before .before .before in
@@ -53,7 +50,7 @@ judge-spec =
     tie.close
     (tie.spec
     (λ c κs. search needs)
-    scan-requires
+    (λ c κs. whole c)
     (λ c. search needs)
     (λ c. search needs)
     file-fields-fault-requires

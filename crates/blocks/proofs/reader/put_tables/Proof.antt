@@ -26,15 +26,6 @@ sized z = sized-file (file z) (read-sound (file z) (z .pre .0))
 abbrev start : tie.After-struct-known3 → tie.Start
 start c = c .before .before .before .before .before .before .before
 
-mul-h : tie.Need-mul-h
-mul-h c = omega (arith, bytes (c .before .before .before .before .before) .holdings .1)
-
-mul-p : tie.Need-mul-p
-mul-p c = omega (arith, bytes (c .before .before .before .before .before .before) .placement .1)
-
-mul-c : tie.Need-mul-c
-mul-c c = omega (arith, bytes (start c) .claims .1)
-
 returns : tie.Need-returns
 unfolding leaves
 returns c =
@@ -109,9 +100,9 @@ pub put-tables-spec : {M : Type 1} → statement M
 put-tables-spec =
     tie.close
     (tie.spec
-    mul-h
-    mul-p
-    mul-c
+    (λ c. omega (arith, bytes (c .before .before .before .before .before) .holdings .1))
+    (λ c. omega (arith, bytes (c .before .before .before .before .before .before) .placement .1))
+    (λ c. omega (arith, bytes (start c) .claims .1))
     (λ c κs. search needs)
     returns
     (λ c κs. search needs)
