@@ -97,6 +97,7 @@ fileChecks file = ask (wholeFile (length file)) 1 0 0 ∷ blocksChecks (length f
 abbrev pub blockCount : ℕ → ℕ
 blockCount bytes = (bytes + 479) / 480
 
+-- how many blocks three tables take
 abbrev pub blocksIn : Tables → ℕ
 blocksIn t = blockCount (length (t .holdings)) + blockCount (length (t .placement)) + blockCount (length (t .claims))
 
@@ -109,6 +110,7 @@ unfoldable pub numbered : ℕ → ℕ → ℕ → List (List ℕ) → List (List
 numbered kind number n [] = []
 numbered kind number n (r ∷ rs) = blockOf kind number n r ∷ numbered kind (number + 1) n rs
 
+-- the blocks of three tables, in a file of n blocks
 unfoldable pub blocksFor : ℕ → Tables → List (List ℕ)
 blocksFor n t =
     numbered 1 0 n (partsOf (t .holdings))

@@ -31,6 +31,7 @@ soFar before =
       claims = sum (countAs Claims) before;
     }
 
+-- with one block more
 abbrev pub grown : SoFar → ℕ → ℕ → SoFar
 grown s kind count =
     record {
@@ -41,13 +42,16 @@ grown s kind count =
       claims = only (eqb kind 3) count + s .claims;
     }
 
+-- `follows`, of what the scan keeps
 abbrev pub mayFollow : SoFar → ℕ → Bool
 mayFollow s kind = leb (s .kind) kind && (not (eqb (s .kind) kind) || eqb (s .count) 15)
 
+-- `withinLimits`, of what the scan keeps
 abbrev pub inLimits : SoFar → Bool
 inLimits s =
     leb (s .holdings) (limitOf Holdings) && leb (s .placement) (limitOf Placement) && leb (s .claims) (limitOf Claims)
 
+-- the same as numbers
 pub record Small (s : SoFar) : Type 0 where
   pub holdings : s .holdings ≤ 256
   pub placement : s .placement ≤ 256

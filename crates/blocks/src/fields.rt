@@ -7,6 +7,8 @@ ghost use Rattle.records.specs.Tables.{goodRecord, fieldChecks};
 ghost use Rattle.blocks.specs.File.{blocksOf, countAs, joined, tablesIn, recordChecks};
 ghost use Rattle.blocks.specs.Steps.{Sized, SizedFile, goodFront};
 use crate::form::BLOCK_BYTES;
+use crate::form::COUNT_AT;
+use crate::form::KIND_AT;
 use crate::form::RECORDS_AT;
 use crate::form::kind_number;
 use crate::scanner::counted_as;
@@ -21,7 +23,7 @@ pub(crate) fn bytes_as(kind: Kind, block: &[u8]) -> usize
     requires { ⌜ Sized (now block) ⌝ }
     ensures { λ r. ⌜ (r ≡ 32 * countAs kind (now (block .entry))) × (r ≤ 480) ⌝ }
 {
-    RECORD_BYTES * counted_as(kind_number(kind), block[4], block[5])
+    RECORD_BYTES * counted_as(kind_number(kind), block[KIND_AT], block[COUNT_AT])
 }
 
 // How many records stand before the first that has a field out of range: all, where none has.
