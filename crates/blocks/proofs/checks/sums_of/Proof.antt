@@ -22,13 +22,19 @@ unfolding byteSum weightedSum
 loop-holds c = search needs
 
 loop-again : tie.Need-loop-again Inv-loop μ-loop
-loop-again c = omega (arith, c .shared-slice-known .given (c .before .before .loop .i), byteSum-more (c .before .before .before .args .s .now) (c .before .before .loop .i) (c .before .loop-test .taken), weightedSum-more (c .before .before .before .args .s .now) (c .before .before .loop .i) (c .before .loop-test .taken))
+loop-again c =
+    let l = c .before .before in
+    let s = l .before .args .s .now in
+    let i = l .loop .i in
+    let h = c .before .loop-test .taken in
+    omega (arith, c .shared-slice-known .given i, byteSum-more s i h, weightedSum-more s i h)
 
 returns : tie.Need-returns Inv-loop μ-loop
 unfolding checkA checkB
 returns c =
-    let whole = take-all (c .before .loop .i) (c .before .before .args .s .now) (c .loop-test .left) in
-    (ap (λ (n : ℕ). n % 65536) (c .before .loop .inv .1 ∙ ap byteSum whole), ap (λ (n : ℕ). n % 65536) (c .before .loop .inv .2 ∙ ap weightedSum whole))
+    let l = c .before .loop in
+    let whole = take-all (l .i) (c .before .before .args .s .now) (c .loop-test .left) in
+    (ap (λ (n : ℕ). n % 65536) (l .inv .1 ∙ ap byteSum whole), ap (λ (n : ℕ). n % 65536) (l .inv .2 ∙ ap weightedSum whole))
 
 pub sums-of-spec : {M : Type 1} → statement M
 sums-of-spec =
