@@ -10,13 +10,14 @@ use lib.ListN.{length, take, drop, length-append, length-take, length-drop}
 use lib.Seq.{drop-drop}
 use borrow.Author.Tests.{eqb-true, leb-true, eq-eqb}
 use Rattle.records.specs.Chunks.{chunkAt, chunksFrom}
+use Rattle.records.specs.Lists.{All}
 use Rattle.records.specs.Tables.{wholeTable, limitOf, tableNumber}
 use Rattle.records.specs.declared.tables.Kind.{Kind}
 use Rattle.records.proofs.ListLaws.{only-le}
 use Rattle.records.proofs.ChunkLaws.{chunks-all, chunks-step, chunks-none}
 use Rattle.blocks.specs.Block.{kindOf, countOf}
 use Rattle.blocks.specs.File.{wholeFile, blocksOf, countAs, recordsAs, joined}
-use Rattle.blocks.specs.Steps.{Sized, SizedFile}
+use Rattle.blocks.specs.Steps.{Sized}
 use Rattle.blocks.proofs.PartLaws.{take-part, all-chunk}
 
 -- so many whole records are a whole table just where they are within its limit
@@ -69,11 +70,10 @@ pub length-recordsAs : (kind : Kind) (b : List ℕ) → Sized b → length (reco
 length-recordsAs kind b s =
     simp (length-take, length-drop) (omega (arith, s .size, s .few, only-le (eqb (kindOf b) (tableNumber kind)) (countOf b)))
 
--- block i of a sized file
-pub sized-at : (f : List ℕ) (i : ℕ) → i < length f / 512 → SizedFile f → Sized (chunkAt 512 f i)
-sized-at f i h s = all-chunk Sized 512 (length f / 512) i f h (s .blocks)
+pub sized-at : (f : List ℕ) (i : ℕ) → i < length f / 512 → All Sized (blocksOf f) → Sized (chunkAt 512 f i)
+sized-at f i h s = all-chunk Sized 512 (length f / 512) i f h s
 
--- its records as they stand in the file, of so many bytes
+-- the records of block i as they stand in the file, of so many bytes
 pub recordsAs-part : (kind : Kind) (f : List ℕ) (i size : ℕ) → i < length f / 512 → Sized (chunkAt 512 f i) → size ≡ 32 * countAs kind (chunkAt 512 f i)
     → take (512 * i + 16 + size - (512 * i + 16)) (drop (512 * i + 16) f) ≡ recordsAs kind (chunkAt 512 f i)
 recordsAs-part kind f i size h s e =

@@ -15,7 +15,7 @@ use Rattle.records.specs.declared.tables.Kind.the-variants.{Holdings, Placement
 use Rattle.records.proofs.OrderLaws.{Pass, clear, unclear, pass-left}
 use Rattle.blocks.specs.File.{wholeFile, blocksOf, countAs, recordsAs, joined, tablesIn, withinLimits, blockChecks, blocksChecks, fileChecks, recordChecks}
 use Rattle.blocks.specs.Reader.{readChecks}
-use Rattle.blocks.specs.Steps.{Sized, SizedFile, soFar}
+use Rattle.blocks.specs.Steps.{Sized, soFar}
 use Rattle.blocks.proofs.BlockLaws.{formed-is}
 use Rattle.blocks.proofs.FileLaws.{whole-file, length-recordsAs}
 use Rattle.blocks.proofs.PartLaws.{chunks-whole}
@@ -67,11 +67,6 @@ file-sound f w e =
 pub sound : (f : List ℕ) → Pass (fileChecks f) → Sound f
 unfolding fileChecks
 sound f p = file-sound f (p .0) (unclear _ (p .1))
-
-pub sized-file : (f : List ℕ) → Sound f → SizedFile f
-sized-file f s =
-    let h = whole-file (length f) (s .whole) in
-    record { most = omega arith; whole = h .0; blocks = s .sized }
 
 -- a table that is read is of whole records and within its limit
 module _ (f : List ℕ) (s : Sound f) (kind : Kind) where

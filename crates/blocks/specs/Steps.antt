@@ -1,11 +1,11 @@
 -- What the steps of the reader compute, for the contracts of functions that are not public.
-use Prim.Native.Nat.{ℕ, suc, _+_, _/_, _%_, _≤_}
+use Prim.Native.Nat.{ℕ, suc, _+_, _/_, _≤_}
 use mathlib.Core.Path.{_≡_}
 use mathlib.Core.Bool.{Bool, cond, _&&_, _||_, not}
 use mathlib.Core.List.{List, [], _∷_}
 use lib.Dec.{eqb, leb}
 use lib.ListN.{length}
-use Rattle.records.specs.Lists.{only, sum, All}
+use Rattle.records.specs.Lists.{only, sum}
 use Rattle.records.specs.Order.{firstOf}
 use Rattle.records.specs.Tables.{limitOf}
 use Rattle.records.specs.declared.tables.Kind.the-variants.{Holdings, Placement, Claims}
@@ -76,12 +76,6 @@ scanOf file = reading (firstOf (blocksChecks (length file / 512) [] (blocksOf fi
 pub record Sized (b : List ℕ) : Type 0 where
   pub size : length b ≡ 512
   pub few : countOf b ≤ 15
-
--- a file of at most 39 whole blocks, each of which is sized
-pub record SizedFile (file : List ℕ) : Type 0 where
-  pub most : length file ≤ 19968
-  pub whole : length file % 512 ≡ 0
-  pub blocks : All Sized (blocksOf file)
 
 module _ {A : Type 0} where
   -- how many elements stand before the first that fails the test

@@ -2,9 +2,10 @@
 ghost use mathlib.Core.Path.{_≡_};
 ghost use Prim.Native.Nat.{_≤_};
 ghost use lib.ListN.{length};
+ghost use Rattle.records.specs.Lists.{All};
 ghost use Rattle.records.specs.Written.{putAt};
 ghost use Rattle.blocks.specs.File.{blocksOf, joined};
-ghost use Rattle.blocks.specs.Steps.{SizedFile};
+ghost use Rattle.blocks.specs.Steps.{Sized};
 use crate::bytes::copy_to;
 use crate::fields::bytes_as;
 use crate::form::BLOCK_BYTES;
@@ -13,7 +14,7 @@ use records::Kind;
 
 // The records of one kind, block after block, from byte 0 of its table on; what lies past them stays.
 pub(crate) fn copy_kind(file: &[u8], kind: Kind, table: &mut [u8])
-    requires { ⌜ SizedFile (now file) ⌝ }
+    requires { ⌜ All Sized (blocksOf (now file)) ⌝ }
     requires { ⌜ length (joined kind (blocksOf (now file))) ≤ length (now table) ⌝ }
     ensures { λ _. ⌜ now (table .exit) ≡ putAt (now (table .entry)) 0 (joined kind (blocksOf (now (file .entry)))) ⌝ }
 {

@@ -1,11 +1,12 @@
 // Refusal 4, judged on the records where they stand in the file, before anything is copied.
 ghost use mathlib.Core.Path.{_≡_};
 ghost use Prim.Native.Nat.{_*_, _≤_};
+ghost use Rattle.records.specs.Lists.{All};
 ghost use Rattle.records.specs.Chunks.{recordsOf};
 ghost use Rattle.records.specs.Order.{firstOf};
 ghost use Rattle.records.specs.Tables.{goodRecord, fieldChecks};
 ghost use Rattle.blocks.specs.File.{blocksOf, countAs, joined, tablesIn, recordChecks};
-ghost use Rattle.blocks.specs.Steps.{Sized, SizedFile, goodFront};
+ghost use Rattle.blocks.specs.Steps.{Sized, goodFront};
 use crate::form::BLOCK_BYTES;
 use crate::form::COUNT_AT;
 use crate::form::KIND_AT;
@@ -46,7 +47,7 @@ fn good_front(kind: Kind, records: &[u8]) -> usize
 
 // The first record of a kind with a field out of range, counted over the kind's blocks.
 fn kind_fault(file: &[u8], kind: Kind) -> Fault
-    requires { ⌜ SizedFile (now file) ⌝ }
+    requires { ⌜ All Sized (blocksOf (now file)) ⌝ }
     ensures { λ r. ⌜ r ≡ firstOf (fieldChecks kind (joined kind (blocksOf (now (file .entry))))) ⌝ }
 {
     let n = file.len() / BLOCK_BYTES;
@@ -74,7 +75,7 @@ fn kind_fault(file: &[u8], kind: Kind) -> Fault
 
 // Refusal 4, by table and then by record, of a file whose blocks have no fault.
 pub(crate) fn file_fields_fault(file: &[u8]) -> Fault
-    requires { ⌜ SizedFile (now file) ⌝ }
+    requires { ⌜ All Sized (blocksOf (now file)) ⌝ }
     ensures { λ r. ⌜ r ≡ firstOf (recordChecks (tablesIn (now (file .entry)))) ⌝ }
 {
     match kind_fault(file, Kind::Holdings) {

@@ -4,11 +4,12 @@ use mathlib.Core.List.{List}
 use Prim.Native.Nat.{ℕ}
 use native.Mathlib.Omega.{arith}
 use lib.ListN.{length}
-use Rattle.blocks.specs.File.{tablesIn}
+use Rattle.records.specs.Lists.{All}
+use Rattle.blocks.specs.File.{blocksOf, tablesIn}
 use Rattle.blocks.specs.Reader.{leaves}
-use Rattle.blocks.specs.Steps.{SizedFile}
+use Rattle.blocks.specs.Steps.{Sized}
 use Rattle.blocks.specs.declared.reader.Reading.the-variants.{Read}
-use Rattle.blocks.proofs.SoundFile.{sized-file, read-sound}
+use Rattle.blocks.proofs.SoundFile.{read-sound}
 use Rattle.blocks.proofs.ReadLaws.{Bytes, read-bytes, read-done, short-1, short-2, short-3}
 use borrow.Author.Needs.{needs}
 use Rattle.blocks.proofs.reader.put_tables.Statement.{statement}
@@ -20,8 +21,8 @@ file z = now (z .args .file)
 bytes : (z : tie.Start) → Bytes (file z) (z .args .counts)
 bytes z = read-bytes (file z) (z .args .counts) (z .pre .0) (z .pre .1)
 
-sized : (z : tie.Start) → SizedFile (file z)
-sized z = sized-file (file z) (read-sound (file z) (z .pre .0))
+sized : (z : tie.Start) → All Sized (blocksOf (file z))
+sized z = read-sound (file z) (z .pre .0) .sized
 
 abbrev start : tie.After-struct-known3 → tie.Start
 start c = c .before .before .before .before .before .before .before
