@@ -2,7 +2,7 @@
 use mathlib.Core.Path.{_≡_, refl}
 use mathlib.Core.Bool.{Bool, true, false, cond, not, and-eq-true-iff}
 use mathlib.Core.List.{List, [], _∷_, _++_, map, List·Memᴰ, List·Memᴰ·head, List·Memᴰ·tail}
-use Prim.Native.Nat.{ℕ, suc, _+_, _*_, _≤_, _<_, max}
+use Prim.Native.Nat.{ℕ, suc, _+_, _*_, _≤_, _<_}
 use native.Mathlib.Nat.{le-trans, le-max-left, le-max-right}
 use native.Mathlib.Decide.{decLe}
 use native.Mathlib.Omega.{arith}
@@ -128,16 +128,6 @@ module _ {A : Type 0} where
   sum-bound f b [] a = omega arith
   sum-bound f b (x ∷ xs) a = omega (arith, a .0, sum-bound f b xs (a .1))
 
-  -- the greatest over those that pass is the greatest over all, where the others count 0
-  pub most-keep : (f : A → ℕ) (t : A → Bool) (l : List A) → most f (keep t l) ≡ most (λ x. only (t x) (f x)) l
-  unfolding most keep
-  most-keep f t [] = refl
-  most-keep f t (x ∷ xs) = go (t x) (most-keep f t xs)
-    where
-      go : (b : Bool) → most f (keep t xs) ≡ most (λ x. only (t x) (f x)) xs → most f (cond b (x ∷ keep t xs) (keep t xs)) ≡ max (only b (f x)) (most (λ x. only (t x) (f x)) xs)
-      go true e = omega arith
-      go false e = omega arith
-
   pub keep-in : (t : A → Bool) (x : A) (l ls : List A) → l ≡ x ∷ ls → t x ≡ true → keep t l ≡ x ∷ keep t ls
   unfolding keep
   keep-in t x l ls e h = rw (e, h)
@@ -149,16 +139,6 @@ module _ {A : Type 0} where
   pub keep-none : (t : A → Bool) (l : List A) → l ≡ [] → keep t l ≡ []
   unfolding keep
   keep-none t l e = rw e
-
-  -- what passes a test, of those that are kept by it
-  pub all-kept : (t : A → Bool) (l : List A) → All (λ x. t x ≡ true) (keep t l)
-  unfolding keep
-  all-kept t [] = tt
-  all-kept t (x ∷ xs) = go (t x) refl (all-kept t xs)
-    where
-      go : (b : Bool) → t x ≡ b → All (λ y. t y ≡ true) (keep t xs) → All (λ y. t y ≡ true) (cond b (x ∷ keep t xs) (keep t xs))
-      go true e r = (e, r)
-      go false e r = r
 
   -- ---- tests of all elements
 

@@ -20,7 +20,7 @@ use Rattle.records.specs.declared.legs.Leg.{Leg}
 use Rattle.records.specs.declared.claims.Claim.{Claim}
 use Rattle.records.specs.declared.refusals.Fault.the-variants.{Nothing}
 use Rattle.records.specs.declared.tables.Kind.{Kind}
-use Rattle.records.specs.declared.tables.Kind.the-variants.{Holdings, Placement, Claims}
+use Rattle.records.specs.declared.tables.Kind.the-variants.{Placement}
 use Rattle.records.proofs.ListLaws.{map-all}
 use Rattle.records.proofs.ChunkLaws.{length-chunks}
 use Rattle.records.proofs.OrderLaws.{clear, pass-each}
@@ -122,15 +122,7 @@ pub fields-good : (kind : Kind) (xs : List ℕ) → firstOf (fieldChecks kind xs
 unfolding fieldChecks
 fields-good kind xs e = pass-each (goodRecord kind) 4 (tableNumber kind) 0 (recordsOf xs) (clear _ e)
 
--- the bounds of every leg of a table whose fields are in range
-pub holdings-ranges : (xs : List ℕ) → firstOf (fieldChecks Holdings xs) ≡ Nothing → All (Ranges 0) (legsOf xs)
-unfolding legsOf
-holdings-ranges xs e = map-all legOf (Ranges 0) (λ r. goodLeg 0 r ≡ true) (recordsOf xs) (good-ranges 0) (fields-good Holdings xs e)
-
+-- the bounds of every leg of a placement whose fields are in range
 pub placement-ranges : (xs : List ℕ) → firstOf (fieldChecks Placement xs) ≡ Nothing → All (Ranges 32) (legsOf xs)
 unfolding legsOf
 placement-ranges xs e = map-all legOf (Ranges 32) (λ r. goodLeg 32 r ≡ true) (recordsOf xs) (good-ranges 32) (fields-good Placement xs e)
-
-pub claims-ranges : (xs : List ℕ) → firstOf (fieldChecks Claims xs) ≡ Nothing → All ClaimRanges (claimsOf xs)
-unfolding claimsOf
-claims-ranges xs e = map-all claimOf ClaimRanges (λ r. goodClaim r ≡ true) (recordsOf xs) claim-ranges (fields-good Claims xs e)
