@@ -27,7 +27,7 @@ tableOf Holdings t = t .holdings
 tableOf Placement t = t .placement
 tableOf Claims t = t .claims
 
--- refusal 4, 'then records by table'
+-- 'then records by table (4)'
 abbrev pub recordChecks : Tables → List Check
 recordChecks t = fieldsChecks (t .holdings) (t .placement) (t .claims)
 

@@ -51,7 +51,7 @@ abbrev pub inLimits : SoFar → Bool
 inLimits s =
     leb (s .holdings) (limitOf Holdings) && leb (s .placement) (limitOf Placement) && leb (s .claims) (limitOf Claims)
 
--- the same as numbers
+-- what `inLimits` says, as numbers
 pub record Small (s : SoFar) : Type 0 where
   pub holdings : s .holdings ≤ 256
   pub placement : s .placement ≤ 256
