@@ -1,10 +1,11 @@
 -- The blocks that the writer makes of three tables, with one block's records more.
 use mathlib.Core.Path.{_≡_, refl, _∙_}
-use mathlib.Core.Bool.{cond}
+use mathlib.Core.Bool.{Bool, true, false, cond}
 use mathlib.Core.List.{List, [], _∷_, _++_, append-assoc, append-nil}
-use Prim.Native.Nat.{ℕ, suc, _+_, _-_, _%_, _≤_, _<_}
+use Prim.Native.Nat.{ℕ, suc, _+_, _%_, _≤_, _<_}
 use native.Mathlib.Omega.{arith}
 use lib.Dec.{eqb}
+use borrow.Author.Tests.{eq-eqb, ne-eqb}
 use lib.ListN.{length, length-append}
 use lib.Seq.{take-all}
 use Rattle.records.specs.Chunks.{chunks}
@@ -14,12 +15,25 @@ use Rattle.records.specs.declared.tables.Kind.the-variants.{Holdings, Placement
 use Rattle.records.proofs.ChunkLaws.{length-chunks}
 use Rattle.blocks.specs.Block.{blockOf}
 use Rattle.blocks.specs.File.{Tables, tables, tableOf, blockCount, blocksIn, partsOf, numbered, blocksFor}
-use Rattle.blocks.proofs.ListMore.{chunks-append}
-use Rattle.blocks.proofs.WriteLaws.{numbered-append}
+use Rattle.blocks.proofs.PartLaws.{chunks-append}
+use Rattle.blocks.proofs.FlatLaws.{numbered-append}
 
 -- the records where the kinds are one, and otherwise none
 abbrev pub added : Kind → Kind → List ℕ → List ℕ
 added kind k r = cond (eqb (tableNumber kind) (tableNumber k)) r []
+
+pub added-same : (kind k : Kind) (r : List ℕ) → tableNumber kind ≡ tableNumber k → added kind k r ≡ r
+added-same kind k r e = rw (eq-eqb (tableNumber kind) (tableNumber k) e)
+
+pub added-other : (kind k : Kind) (r : List ℕ) → tableNumber kind < tableNumber k → added kind k r ≡ []
+added-other kind k r h = rw (ne-eqb (tableNumber kind) (tableNumber k) (λ e. omega arith))
+
+pub added-short : (kind k : Kind) (y x : List ℕ) → length y ≤ length x → length (added kind k y) ≤ length (added kind k x)
+added-short kind k y x h = go (eqb (tableNumber kind) (tableNumber k))
+  where
+    go : (q : Bool) → length (cond q y []) ≤ length (cond q x [])
+    go true = h
+    go false = omega arith
 
 abbrev pub add : Kind → List ℕ → Tables → Tables
 add kind r t =
@@ -29,6 +43,17 @@ pub table-add : (kind k : Kind) (r : List ℕ) (t : Tables) → tableOf k (add k
 table-add kind Holdings r t = refl
 table-add kind Placement r t = refl
 table-add kind Claims r t = refl
+
+-- nothing added, and one thing added after another
+pub add-none : (kind : Kind) (t : Tables) → add kind [] t ≡ t
+add-none Holdings t = simp append-nil
+add-none Placement t = simp append-nil
+add-none Claims t = simp append-nil
+
+pub add-add : (kind : Kind) (x r : List ℕ) (t : Tables) → add kind r (add kind x t) ≡ add kind (x ++ r) t
+add-add Holdings x r t = simp (append-assoc, append-nil)
+add-add Placement x r t = simp (append-assoc, append-nil)
+add-add Claims x r t = simp (append-assoc, append-nil)
 
 -- a block of the kind with number m may come next: later tables are empty, and this one is of full blocks
 pub record May (m : ℕ) (t : Tables) : Type 0 where

@@ -2,7 +2,7 @@
 use mathlib.Core.Path.{_≡_, ap, _∙_}
 use mathlib.Core.Bool.{Bool, true, false, cond}
 use mathlib.Core.List.{List, [], _∷_, _++_}
-use Prim.Native.Nat.{ℕ, suc, _+_, _-_, _*_, _/_, _≤_, _<_}
+use Prim.Native.Nat.{ℕ, suc, _+_, _*_, _/_, _≤_, _<_}
 use native.Mathlib.Omega.{arith}
 use lib.ListN.{length, length-append}
 use Rattle.records.specs.Chunks.{recordsOf}
@@ -14,7 +14,7 @@ use Rattle.records.specs.declared.tables.Kind.{Kind}
 use Rattle.blocks.specs.File.{countAs, recordsAs, joined}
 use Rattle.blocks.specs.Steps.{goodFront, Sized}
 use Rattle.blocks.proofs.FileLaws.{length-recordsAs, joined-step}
-use Rattle.blocks.proofs.ListMore.{chunks-append}
+use Rattle.blocks.proofs.PartLaws.{chunks-append}
 
 module _ {A : Type 0} (good : A → Bool) where
   pub front-go : (x : A) (l ls : List A) → l ≡ x ∷ ls → good x ≡ true → goodFront good l ≡ 1 + goodFront good ls

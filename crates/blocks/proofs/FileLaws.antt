@@ -1,23 +1,24 @@
 -- A file's blocks: those before block i, a kind's records in them, and which size they have.
 use mathlib.Core.Path.{_≡_, refl, sym, ap, _∙_}
-use mathlib.Core.Bool.{Bool, true, false, _&&_, and-eq-true-iff}
+use mathlib.Core.Bool.{true, _&&_, and-eq-true-iff}
 use mathlib.Core.List.{List, [], _∷_, _++_, append-assoc}
 use Prim.Native.Nat.{ℕ, zero, suc, _+_, _-_, _*_, _/_, _%_, _≤_, _<_}
 use native.Mathlib.Numerals.{add-one}
 use native.Mathlib.Omega.{arith}
 use lib.Dec.{eqb, leb}
-use lib.ListN.{length, take, drop, length-take, length-drop}
+use lib.ListN.{length, take, drop, length-append, length-take, length-drop}
 use lib.Seq.{drop-drop}
 use borrow.Author.Tests.{eqb-true, leb-true, eq-eqb}
 use Rattle.records.specs.Chunks.{chunkAt, chunksFrom}
-use Rattle.records.specs.Lists.{only}
+use Rattle.records.specs.Lists.{All}
 use Rattle.records.specs.Tables.{wholeTable, limitOf, tableNumber}
 use Rattle.records.specs.declared.tables.Kind.{Kind}
+use Rattle.records.proofs.ListLaws.{only-le}
 use Rattle.records.proofs.ChunkLaws.{chunks-all, chunks-step, chunks-none}
 use Rattle.blocks.specs.Block.{kindOf, countOf}
 use Rattle.blocks.specs.File.{wholeFile, blocksOf, countAs, recordsAs, joined}
 use Rattle.blocks.specs.Steps.{Sized}
-use Rattle.blocks.proofs.ListMore.{take-part}
+use Rattle.blocks.proofs.PartLaws.{take-part, all-chunk}
 
 -- so many whole records are a whole table just where they are within its limit
 pub fits-is : (kind : Kind) (n : ℕ) → wholeTable kind (32 * n) ≡ leb n (limitOf kind)
@@ -30,10 +31,6 @@ whole-file bytes e =
     let p = and-eq-true-iff (eqb (bytes % 512) 0) (leb 1 (bytes / 512) && leb (bytes / 512) 39) .0 e in
     let q = and-eq-true-iff (leb 1 (bytes / 512)) (leb (bytes / 512) 39) .0 (p .1) in
     (eqb-true (bytes % 512) 0 (p .0), leb-true 1 (bytes / 512) (q .0), leb-true (bytes / 512) 39 (q .1))
-
-pub only-le : (t : Bool) (x : ℕ) → only t x ≤ x
-only-le true x = omega arith
-only-le false x = omega arith
 
 -- ---- block i and those before it
 
@@ -73,27 +70,21 @@ pub length-recordsAs : (kind : Kind) (b : List ℕ) → Sized b → length (reco
 length-recordsAs kind b s =
     simp (length-take, length-drop) (omega (arith, s .size, s .few, only-le (eqb (kindOf b) (tableNumber kind)) (countOf b)))
 
--- the records of a block as they stand in the file
-pub recordsAs-part : (kind : Kind) (f : List ℕ) (i : ℕ) → i < length f / 512 → Sized (chunkAt 512 f i)
-    → take (512 * i + 16 + 32 * countAs kind (chunkAt 512 f i) - (512 * i + 16)) (drop (512 * i + 16) f) ≡ recordsAs kind (chunkAt 512 f i)
-recordsAs-part kind f i h s =
-    let m = 32 * countAs kind (chunkAt 512 f i) in
-    let q : 512 * i + 16 + m - (512 * i + 16) ≡ m = omega arith in
-    let le : 16 + m ≤ 512 = omega (arith, s .few, only-le (eqb (kindOf (chunkAt 512 f i)) (tableNumber kind)) (countOf (chunkAt 512 f i))) in
-    rw (q, ← (drop-drop 16 (512 * i) f)) (sym (take-part 16 m 512 (drop (512 * i) f) le (simp length-drop (omega arith))))
+pub sized-at : (f : List ℕ) (i : ℕ) → i < length f / 512 → All Sized (blocksOf f) → Sized (chunkAt 512 f i)
+sized-at f i h s = all-chunk Sized 512 (length f / 512) i f h s
+
+-- the records of block i as they stand in the file, of so many bytes
+pub recordsAs-part : (kind : Kind) (f : List ℕ) (i size : ℕ) → i < length f / 512 → Sized (chunkAt 512 f i) → size ≡ 32 * countAs kind (chunkAt 512 f i)
+    → take (512 * i + 16 + size - (512 * i + 16)) (drop (512 * i + 16) f) ≡ recordsAs kind (chunkAt 512 f i)
+recordsAs-part kind f i size h s e =
+    let q : 512 * i + 16 + size - (512 * i + 16) ≡ size = omega arith in
+    let le : 16 + size ≤ 512 = omega (arith, s .few, only-le (eqb (kindOf (chunkAt 512 f i)) (tableNumber kind)) (countOf (chunkAt 512 f i))) in
+    rw (q, ← (drop-drop 16 (512 * i) f), ← e) (sym (take-part 16 size 512 (drop (512 * i) f) le (simp length-drop (omega arith))))
 
 -- a kind's records in the blocks before, nearest first
 unfoldable pub joinedBack : Kind → List (List ℕ) → List ℕ
 joinedBack kind [] = []
 joinedBack kind (b ∷ before) = joinedBack kind before ++ recordsAs kind b
-
-pub back-none : (kind : Kind) (f : List ℕ) → joinedBack kind (earlier f 0) ≡ []
-unfolding joinedBack earlier
-back-none kind f = refl
-
-pub back-next : (kind : Kind) (f : List ℕ) (i : ℕ) → joinedBack kind (earlier f (i + 1)) ≡ joinedBack kind (earlier f i) ++ recordsAs kind (chunkAt 512 f i)
-unfolding joinedBack
-back-next kind f i = rw (earlier-next f i)
 
 pub joined-step : (kind : Kind) (b : List ℕ) (l ls : List (List ℕ)) → l ≡ b ∷ ls → joined kind l ≡ recordsAs kind b ++ joined kind ls
 unfolding joined
@@ -103,10 +94,25 @@ pub joined-none : (kind : Kind) (l : List (List ℕ)) → l ≡ [] → joined ki
 unfolding joined
 joined-none kind l e = rw e
 
--- what is joined is what is joined of those before block i, and of the rest
-pub joined-move : (kind : Kind) (f whole : List ℕ) (i : ℕ) → i < length f / 512
-    → whole ≡ joinedBack kind (earlier f i) ++ joined kind (blocksFrom f i)
-    → whole ≡ joinedBack kind (earlier f (i + 1)) ++ joined kind (blocksFrom f (i + 1))
-joined-move kind f whole i h e =
-    e ∙ rw (back-next kind f i, joined-step kind (chunkAt 512 f i) (blocksFrom f i) (blocksFrom f (i + 1)) (blocks-step f i h))
-    (sym (append-assoc (joinedBack kind (earlier f i)) (recordsAs kind (chunkAt 512 f i)) (joined kind (blocksFrom f (i + 1)))))
+-- a kind's records in the first i blocks
+abbrev pub joinedTo : Kind → List ℕ → ℕ → List ℕ
+joinedTo kind f i = joinedBack kind (earlier f i)
+
+pub joined-next : (kind : Kind) (f : List ℕ) (i : ℕ) → joinedTo kind f (i + 1) ≡ joinedTo kind f i ++ recordsAs kind (chunkAt 512 f i)
+unfolding joinedBack
+joined-next kind f i = rw (earlier-next f i)
+
+-- what is joined is what is joined of the first i blocks, and of the rest
+pub joined-at : (kind : Kind) (f : List ℕ) (i : ℕ) → i ≤ length f / 512 → joined kind (blocksOf f) ≡ joinedTo kind f i ++ joined kind (blocksFrom f i)
+unfolding joinedBack earlier joined
+joined-at kind f zero h = rw (blocks-all f)
+joined-at kind f (suc i) h =
+    joined-at kind f i (omega arith)
+    ∙ rw (blocks-step f i h, add-one i) (sym (append-assoc (joinedTo kind f i) (recordsAs kind (chunkAt 512 f i)) (joined kind (blocksFrom f (suc i)))))
+
+-- where the records of block i go, the others of the kind leave room for them
+pub joined-room : (kind : Kind) (f : List ℕ) (i : ℕ) → i < length f / 512
+    → length (joinedTo kind f i) + length (recordsAs kind (chunkAt 512 f i)) ≤ length (joined kind (blocksOf f))
+joined-room kind f i h =
+    let e = ap length (joined-at kind f (i + 1) (omega arith) ∙ ap (λ (l : List ℕ). l ++ joined kind (blocksFrom f (i + 1))) (joined-next kind f i)) in
+    omega (arith, simp length-append at e)

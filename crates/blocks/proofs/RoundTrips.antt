@@ -1,99 +1,40 @@
 -- The round trips of files: specs/RoundTrips.antt's statements, proved.
-use mathlib.Core.Path.{_≡_, refl, sym, ap, _∙_}
+use mathlib.Core.Path.{_≡_, sym, ap, _∙_}
 use mathlib.Core.Bool.{true, _&&_, not}
-use mathlib.Core.List.{List, [], _∷_, _++_, append-assoc, append-nil}
-use Prim.Native.Nat.{ℕ, zero, suc, _+_, _-_, _*_, _/_, _%_, _≤_, _<_}
-use native.Mathlib.Nat.{mul-suc}
+use mathlib.Core.List.{List, [], _∷_, _++_, append-assoc, append-nil, reverseAux, reverse, reverse-reverse}
+use Prim.Native.Nat.{ℕ, zero, suc, _+_, _/_, _%_, _≤_, _<_}
 use native.Mathlib.Omega.{arith}
 use lib.Dec.{eqb, eqb·suc-zero}
-use lib.ListN.{length, take, drop, length-drop, take-append-drop}
-use lib.Seq.{take-at, drop-at}
+use lib.ListN.{length, length-reverse}
 use borrow.Author.Tests.{eq-eqb, le-leb}
 use Rattle.records.specs.Chunks.{chunks}
-use Rattle.records.specs.Lists.{All}
 use Rattle.records.specs.declared.tables.Kind.{Kind}
 use Rattle.records.specs.declared.tables.Kind.the-variants.{Holdings, Placement, Claims}
 use Rattle.records.proofs.ChunkLaws.{length-chunks}
 use Rattle.records.proofs.OrderLaws.{Pass, clear, unclear, pass-left, pass-right, pass-both}
-use Rattle.blocks.specs.File.{Tables, tables, tableOf, wholeFile, blocksOf, joined, tablesIn, blocksChecks, fileChecks, blockCount, blocksIn, partsOf, numbered, blocksFor, flat, fileOf}
-use Rattle.blocks.specs.Writer.{takenTables, fieldsOf, writeChecks, filled}
+use Rattle.blocks.specs.File.{Tables, tables, tableOf, wholeFile, blocksOf, joined, tablesIn, blocksChecks, fileChecks, blocksIn, blocksFor, flat, fileOf, recordChecks}
+use Rattle.blocks.specs.Writer.{takenTables, writeChecks, filled}
 use Rattle.blocks.specs.Reader.{readChecks, leaves}
 use Rattle.blocks.specs.RoundTrips.{Writes, Reads, AllBytes, WrittenReadsBack, ReadWritesBack, CallsReadBack, CallsWriteBack}
-use Rattle.blocks.proofs.BlockLaws.{length-block}
 use Rattle.blocks.proofs.FileLaws.{joinedBack, whole-file}
-use Rattle.blocks.proofs.ListMore.{chunks-short, chunks-whole}
-use Rattle.blocks.proofs.ReadLaws.{Sound, sound, whole-table, read-done}
-use Rattle.blocks.proofs.State.{onto, onto-onto, State, start}
-use Rattle.blocks.proofs.Trip.{read-all, pass-onto, reach}
-use Rattle.blocks.proofs.WriteLaws.{length-file, Taken, taken-is, write-done}
-
--- ---- blocks joined and cut again
-
-cut-joined : (bs : List (List ℕ)) → All (λ b. length b ≡ 512) bs → chunks 512 (length bs) (flat bs) ≡ bs
-unfolding chunks flat
-cut-joined [] l = refl
-cut-joined (b ∷ bs) l = rw (take-at b (flat bs) 512 (l .0), drop-at b (flat bs) 512 (l .0), cut-joined bs (l .1))
-
-join-cut : (n : ℕ) (f : List ℕ) → length f ≡ 512 * n → flat (chunks 512 n f) ≡ f
-unfolding chunks flat
-join-cut zero [] e = refl
-join-cut zero (x ∷ f) e = absurd (omega arith)
-join-cut (suc n) f e =
-    let d : length (drop 512 f) ≡ 512 * n = simp length-drop (omega (arith, mul-suc 512 n)) in
-    rw (join-cut n (drop 512 f) d) (take-append-drop 512 f)
-
-all-take : {A : Type 0} (P : A → Type 0) (n : ℕ) (xs : List A) → All P xs → All P (take n xs)
-all-take P zero xs a = tt
-all-take P (suc n) [] a = tt
-all-take P (suc n) (x ∷ xs) a = (a .0, all-take P n xs (a .1))
-
-all-drop : {A : Type 0} (P : A → Type 0) (n : ℕ) (xs : List A) → All P xs → All P (drop n xs)
-all-drop P zero xs a = a
-all-drop P (suc n) [] a = tt
-all-drop P (suc n) (x ∷ xs) a = all-drop P n xs (a .1)
-
-all-append : {A : Type 0} (P : A → Type 0) (xs ys : List A) → All P xs → All P ys → All P (xs ++ ys)
-all-append P [] ys a b = b
-all-append P (x ∷ xs) ys a b = (a .0, all-append P xs ys (a .1) b)
-
-chunks-bytes : (size n : ℕ) (xs : List ℕ) → AllBytes xs → All AllBytes (chunks size n xs)
-unfolding chunks
-chunks-bytes size zero xs a = tt
-chunks-bytes size (suc n) xs a = (all-take (λ x. x < 256) size xs a, chunks-bytes size n (drop size xs) (all-drop (λ x. x < 256) size xs a))
-
--- ---- the writer's blocks
-
-numbered-sized : (kind i n : ℕ) (rs : List (List ℕ)) → All (λ r. length r ≤ 480) rs → All (λ b. length b ≡ 512) (numbered kind i n rs)
-unfolding numbered
-numbered-sized kind i n [] s = tt
-numbered-sized kind i n (r ∷ rs) s = (length-block kind i n r (s .0), numbered-sized kind (i + 1) n rs (s .1))
-
-blocks-sized : (n : ℕ) (t : Tables) → All (λ b. length b ≡ 512) (blocksFor n t)
-unfolding blocksFor
-blocks-sized n t =
-    let s : (kind i : ℕ) (x : List ℕ) → All (λ b. length b ≡ 512) (numbered kind i n (partsOf x)) =
-    λ kind i x. numbered-sized kind i n (partsOf x) (chunks-short 480 (blockCount (length x)) x) in
-    all-append (λ b. length b ≡ 512) (numbered 1 0 n (partsOf (t .holdings))) _ (s 1 0 (t .holdings))
-    (all-append (λ b. length b ≡ 512) (numbered 2 (blockCount (length (t .holdings))) n (partsOf (t .placement))) _ (s 2 (blockCount (length (t .holdings))) (t .placement))
-    (s 3 (blockCount (length (t .holdings)) + blockCount (length (t .placement))) (t .claims)))
+use Rattle.blocks.proofs.FlatLaws.{cut-joined, join-cut, blocks-whole, blocks-count, length-file}
+use Rattle.blocks.proofs.PartLaws.{chunks-whole, chunks-each}
+use Rattle.blocks.proofs.ReadLaws.{read-done}
+use Rattle.blocks.proofs.SoundFile.{Sound, sound, whole-table}
+use Rattle.blocks.proofs.State.{State, start}
+use Rattle.blocks.proofs.ReadTrip.{read-all}
+use Rattle.blocks.proofs.WriteStep.{pass-reversed}
+use Rattle.blocks.proofs.WriteTrip.{reach}
+use Rattle.blocks.proofs.WriteLaws.{Taken, taken-is, write-done}
 
 -- ---- turned around
 
-length-onto : {A : Type 0} (xs ys : List A) → length (onto xs ys) ≡ length xs + length ys
-unfolding onto
-length-onto [] ys = omega arith
-length-onto (x ∷ xs) ys = length-onto xs (x ∷ ys) ∙ omega arith
-
-twice : {A : Type 0} (xs : List A) → onto (onto xs []) [] ≡ xs
-unfolding onto
-twice xs = onto-onto xs [] [] ∙ append-nil xs
-
-joined-onto : (k : Kind) (bs before : List (List ℕ)) → joinedBack k (onto bs before) ≡ joinedBack k before ++ joined k bs
-unfolding joinedBack joined onto
+joined-onto : (k : Kind) (bs before : List (List ℕ)) → joinedBack k (reverseAux bs before) ≡ joinedBack k before ++ joined k bs
+unfolding joinedBack joined
 joined-onto k [] before = sym (append-nil (joinedBack k before))
 joined-onto k (b ∷ bs) before = joined-onto k bs (b ∷ before) ∙ append-assoc (joinedBack k before) _ (joined k bs)
 
-joined-back : (k : Kind) (bs : List (List ℕ)) → joinedBack k (onto bs []) ≡ joined k bs
+joined-back : (k : Kind) (bs : List (List ℕ)) → joinedBack k (reverse bs) ≡ joined k bs
 unfolding joinedBack
 joined-back k bs = joined-onto k bs []
 
@@ -113,15 +54,13 @@ module _ (t : Tables) (w : Writes t) where
   blocks-back : blocksOf (fileOf t) ≡ blocksFor (blocksIn t) t
   unfolding fileOf
   blocks-back =
-      let n = blocksIn t in
-      let s = reach n t taken .state in
-      let len : length (blocksFor n t) ≡ n = rw (s .blocks) (length-onto (reach n t taken .before) [] ∙ omega (arith, s .count)) in
-      rw blocks-number (ap (λ (m : ℕ). chunks 512 m (flat (blocksFor n t))) (sym len) ∙ cut-joined (blocksFor n t) (blocks-sized n t))
+      let bs = blocksFor (blocksIn t) t in
+      rw blocks-number (ap (λ (m : ℕ). chunks 512 m (flat bs)) (sym (blocks-count (blocksIn t) t)) ∙ cut-joined bs (blocks-whole (blocksIn t) t))
 
   joined-is : (k : Kind) → joined k (blocksOf (fileOf t)) ≡ tableOf k t
   joined-is k =
       let r = reach (blocksIn t) t taken in
-      rw (blocks-back, r .state .blocks) (sym (joined-back k (onto (r .before) [])) ∙ ap (joinedBack k) (twice (r .before)) ∙ sym (r .state .joins k))
+      rw (blocks-back, r .state .blocks) (sym (joined-back k (reverse (r .before))) ∙ ap (joinedBack k) (reverse-reverse (r .before)) ∙ sym (r .state .joins k))
 
   tables-back : tablesIn (fileOf t) ≡ t
   unfolding tablesIn
@@ -137,15 +76,15 @@ module _ (t : Tables) (w : Writes t) where
   unfolding fileChecks blocksChecks
   file-passes =
       let r = reach (blocksIn t) t taken in
-      (whole, rw (blocks-back, blocks-number, r .state .blocks) (pass-onto (blocksIn t) (r .before) [] (r .passed) tt))
+      (whole, rw (blocks-back, blocks-number, r .state .blocks) (pass-reversed (blocksIn t) (r .before) [] (r .passed) tt))
 
-  fields-pass : Pass (fieldsOf (tablesIn (fileOf t)))
+  fields-pass : Pass (recordChecks (tablesIn (fileOf t)))
   unfolding writeChecks
   fields-pass = rw tables-back (passed .1)
 
   reads : Reads (fileOf t)
   unfolding readChecks
-  reads = unclear (fileChecks (fileOf t) ++ fieldsOf (tablesIn (fileOf t))) (pass-both (fileChecks (fileOf t)) (fieldsOf (tablesIn (fileOf t))) file-passes fields-pass)
+  reads = unclear (fileChecks (fileOf t) ++ recordChecks (tablesIn (fileOf t))) (pass-both (fileChecks (fileOf t)) (recordChecks (tablesIn (fileOf t))) file-passes fields-pass)
 
 pub written-reads-back : WrittenReadsBack
 written-reads-back t w = (reads t w, tables-back t w)
@@ -159,20 +98,20 @@ some-not zero (suc p) c h = rw (eqb·suc-zero p)
 some-not (suc h) p c e = rw (eqb·suc-zero h)
 
 module _ (f : List ℕ) (a : AllBytes f) (r : Reads f) where
-  both : Pass (fileChecks f) × Pass (fieldsOf (tablesIn f))
+  both : Pass (fileChecks f) × Pass (recordChecks (tablesIn f))
   unfolding readChecks
   both =
-      let p = clear (fileChecks f ++ fieldsOf (tablesIn f)) r in
-      (pass-left (fileChecks f) (fieldsOf (tablesIn f)) p, pass-right (fileChecks f) (fieldsOf (tablesIn f)) p)
+      let p = clear (fileChecks f ++ recordChecks (tablesIn f)) r in
+      (pass-left (fileChecks f) (recordChecks (tablesIn f)) p, pass-right (fileChecks f) (recordChecks (tablesIn f)) p)
 
   fine : Sound f
   fine = sound f (both .0)
 
-  walked : (u : Tables) × State (length f / 512) (onto (blocksOf f) []) u
+  walked : (u : Tables) × State (length f / 512) (reverse (blocksOf f)) u
   walked =
       let n = length f / 512 in
       let w = whole-file (length f) (fine .whole) in
-      read-all n (blocksOf f) [] (tables [] [] []) (start n) (fine .blocks) (chunks-whole 512 n f (omega arith)) (chunks-bytes 512 n f a)
+      read-all n (blocksOf f) [] (tables [] [] []) (start n) (fine .blocks) (chunks-whole 512 n f (omega arith)) (chunks-each (λ x. x < 256) 512 n f a)
 
   same-tables : walked .0 ≡ tablesIn f
   unfolding tablesIn
@@ -189,8 +128,8 @@ module _ (f : List ℕ) (a : AllBytes f) (r : Reads f) where
       let n = length f / 512 in
       let s = walked .1 in
       let w = whole-file (length f) (fine .whole) in
-      let count : blocksIn (walked .0) ≡ n = s .count ∙ length-onto (blocksOf f) [] ∙ omega (arith, length-chunks 512 n f) in
-      rw (← same-tables, count, s .blocks, twice (blocksOf f)) (join-cut n f (omega arith))
+      let count : blocksIn (walked .0) ≡ n = s .count ∙ length-reverse (blocksOf f) ∙ length-chunks 512 n f in
+      rw (← same-tables, count, s .blocks, reverse-reverse (blocksOf f)) (join-cut n f (omega arith))
 
   taken-back : takenTables (length (tablesIn f .holdings)) (length (tablesIn f .placement)) (length (tablesIn f .claims)) ≡ true
   unfolding takenTables tablesIn
@@ -221,4 +160,4 @@ unfolding filled writeChecks
 calls-write-back f a r room fits =
     let e = file-back f a r in
     let p = clear (writeChecks (tablesIn f)) (writes f a r) in
-    (rw e at (write-done (tablesIn f) room (p .0) (unclear (fieldsOf (tablesIn f)) (p .1)) (omega (arith, ap length (sym e) ∙ length-file (tablesIn f)))), λ lent. rw e)
+    (rw e at (write-done (tablesIn f) room (p .0) (unclear (recordChecks (tablesIn f)) (p .1)) (omega (arith, ap length (sym e) ∙ length-file (tablesIn f)))), λ lent. rw e)

@@ -2,7 +2,7 @@
 use mathlib.Core.Path.{_≡_, refl, ap, _∙_}
 use mathlib.Core.Bool.{Bool, true, false, cond, _&&_, and-eq-true-iff}
 use mathlib.Core.List.{List, [], _∷_}
-use Prim.Native.Nat.{ℕ, _+_, _-_, _*_, _/_, _≤_, _<_}
+use Prim.Native.Nat.{ℕ, _+_, _*_, _/_, _≤_, _<_}
 use native.Mathlib.Omega.{arith}
 use lib.Dec.{eqb, leb}
 use lib.ListN.{length, length-append}
@@ -15,14 +15,15 @@ use Rattle.records.specs.declared.refusals.Fault.{Fault}
 use Rattle.records.specs.declared.refusals.Fault.the-variants.{Nothing, Is}
 use Rattle.records.specs.declared.tables.Kind.{Kind}
 use Rattle.records.specs.declared.tables.Kind.the-variants.{Holdings, Placement, Claims}
+use Rattle.records.proofs.ListLaws.{only-le}
 use Rattle.records.proofs.OrderLaws.{first-append}
 use Rattle.blocks.specs.Block.{kindOf, countOf, sumsAgree, formed}
 use Rattle.blocks.specs.File.{blocksOf, countAs, recordsAs, joined, tablesIn, follows, withinLimits, blockChecks, blocksChecks}
-use Rattle.blocks.specs.Steps.{nothingYet, soFar, grown, mayFollow, inLimits, Small, Sized, faultNumber, scanOf}
+use Rattle.blocks.specs.Steps.{nothingYet, soFar, grown, mayFollow, inLimits, Small, Sized, blockFault, scanOf}
 use Rattle.blocks.specs.declared.scanner.SoFar.{SoFar}
 use Rattle.blocks.specs.declared.reader.Reading.the-variants.{Read}
 use Rattle.blocks.proofs.BlockLaws.{formed-is}
-use Rattle.blocks.proofs.FileLaws.{only-le, earlier, length-earlier, earlier-next, blocksFrom, blocks-all, blocks-step, blocks-none, length-blockAt, length-recordsAs, joined-step, joined-none}
+use Rattle.blocks.proofs.FileLaws.{earlier, length-earlier, earlier-next, blocksFrom, blocks-all, blocks-step, blocks-none, length-blockAt, length-recordsAs, joined-step, joined-none}
 
 pub grown-most : (s : SoFar) (kind count : ℕ) → Small s → count ≤ 15
     → (grown s kind count .holdings ≤ 300) × (grown s kind count .placement ≤ 300) × (grown s kind count .claims ≤ 300)
@@ -45,8 +46,8 @@ four true true true false i = refl
 four true true true true i = refl
 
 pub block-first : (n : ℕ) (before : List (List ℕ)) (b : List ℕ)
-    → firstOf (blockChecks n before b) ≡ found (faultNumber (soFar before) (length before) n b) (length before)
-unfolding blockChecks faultNumber follows withinLimits sum
+    → firstOf (blockChecks n before b) ≡ found (blockFault (soFar before) (length before) n b) (length before)
+unfolding blockChecks blockFault follows withinLimits sum
 block-first n before b =
     four (sumsAgree b) (formed (length before) n b) (mayFollow (soFar before) (kindOf b)) (inLimits (grown (soFar before) (kindOf b) (countOf b))) (length before)
 
@@ -57,9 +58,9 @@ three true false c e = absurd (omega arith)
 three false b c e = absurd (omega arith)
 
 -- what a block without a fault is
-pub no-fault : (s : SoFar) (i n : ℕ) (b : List ℕ) → faultNumber s i n b ≡ 0
+pub no-fault : (s : SoFar) (i n : ℕ) (b : List ℕ) → blockFault s i n b ≡ 0
     → (sumsAgree b ≡ true) × (formed i n b ≡ true) × (mayFollow s (kindOf b) ≡ true) × (inLimits (grown s (kindOf b) (countOf b)) ≡ true)
-unfolding faultNumber
+unfolding blockFault
 no-fault s i n b e =
     let t = three (sumsAgree b) (formed i n b) (mayFollow s (kindOf b) && inLimits (grown s (kindOf b) (countOf b))) e in
     let q = and-eq-true-iff (mayFollow s (kindOf b)) (inLimits (grown s (kindOf b) (countOf b))) .0 (t .2) in
@@ -78,17 +79,17 @@ in-limits s e =
 -- ---- the scan
 
 -- how many records of a kind were counted, against how long its table is
-abbrev Counted : Kind → List ℕ → ℕ → ℕ → Type 0
-Counted kind f i count = length (joined kind (blocksOf f)) ≡ 32 * count + length (joined kind (blocksFrom f i))
+abbrev CountIs : Kind → List ℕ → ℕ → ℕ → Type 0
+CountIs kind f i count = length (joined kind (blocksOf f)) ≡ 32 * count + length (joined kind (blocksFrom f i))
 
 pub record Scanned (f : List ℕ) (i : ℕ) (s : SoFar) : Type 0 where
   pub at : i ≤ length f / 512
   pub seen : s ≡ soFar (earlier f i)
   pub small : Small s
   pub checks : firstOf (blocksChecks (length f / 512) [] (blocksOf f)) ≡ firstOf (blocksChecks (length f / 512) (earlier f i) (blocksFrom f i))
-  pub holdings : Counted Holdings f i (s .holdings)
-  pub placement : Counted Placement f i (s .placement)
-  pub claims : Counted Claims f i (s .claims)
+  pub holdings : CountIs Holdings f i (s .holdings)
+  pub placement : CountIs Placement f i (s .placement)
+  pub claims : CountIs Claims f i (s .claims)
 
 pub scan-start : (f : List ℕ) → Scanned f 0 nothingYet
 unfolding earlier sum leAt
@@ -105,7 +106,7 @@ scan-start f =
 
 module _ (f : List ℕ) (i : ℕ) (s : SoFar) (h : i < length f / 512) (inv : Scanned f i s) where
   step : firstOf (blocksChecks (length f / 512) [] (blocksOf f))
-      ≡ orElse (found (faultNumber s i (length f / 512) (chunkAt 512 f i)) i) (firstOf (blocksChecks (length f / 512) (earlier f (i + 1)) (blocksFrom f (i + 1))))
+      ≡ orElse (found (blockFault s i (length f / 512) (chunkAt 512 f i)) i) (firstOf (blocksChecks (length f / 512) (earlier f (i + 1)) (blocksFrom f (i + 1))))
   unfolding blocksChecks
   step =
       let n = length f / 512 in
@@ -115,11 +116,11 @@ module _ (f : List ℕ) (i : ℕ) (s : SoFar) (h : i < length f / 512) (inv : Sc
       inv .checks
       ∙ rw (blocks-step f i h, first-append (blockChecks n (earlier f i) b) (blocksChecks n (b ∷ earlier f i) (blocksFrom f (i + 1))), e, l, inv .seen, earlier-next f i)
 
-  pub scan-fault : (t : ℕ) → t ≡ faultNumber s i (length f / 512) (chunkAt 512 f i) → (t ≡ 0 → ⊥)
+  pub scan-fault : (t : ℕ) → t ≡ blockFault s i (length f / 512) (chunkAt 512 f i) → (t ≡ 0 → ⊥)
       → firstOf (blocksChecks (length f / 512) [] (blocksOf f)) ≡ Is (refuse t 0 i)
   scan-fault t e bad = step ∙ rw (← e, ne-eqb t 0 bad)
 
-  module _ (fine : faultNumber s i (length f / 512) (chunkAt 512 f i) ≡ 0) where
+  module _ (fine : blockFault s i (length f / 512) (chunkAt 512 f i) ≡ 0) where
     pub scan-sized : Sized (chunkAt 512 f i)
     scan-sized =
         record {
@@ -127,8 +128,8 @@ module _ (f : List ℕ) (i : ℕ) (s : SoFar) (h : i < length f / 512) (inv : Sc
           few = formed-is i (length f / 512) (chunkAt 512 f i) (no-fault s i (length f / 512) (chunkAt 512 f i) fine .1) .0 .count .1;
         }
 
-    counted : (kind : Kind) (count : ℕ) → Counted kind f i count → Counted kind f (i + 1) (countAs kind (chunkAt 512 f i) + count)
-    counted kind count e =
+    count-next : (kind : Kind) (count : ℕ) → CountIs kind f i count → CountIs kind f (i + 1) (countAs kind (chunkAt 512 f i) + count)
+    count-next kind count e =
         let b = chunkAt 512 f i in
         let j = ap length (joined-step kind b (blocksFrom f i) (blocksFrom f (i + 1)) (blocks-step f i h)) ∙ length-append (recordsAs kind b) (joined kind (blocksFrom f (i + 1))) in
         omega (arith, e, j, length-recordsAs kind b scan-sized)
@@ -142,9 +143,9 @@ module _ (f : List ℕ) (i : ℕ) (s : SoFar) (h : i < length f / 512) (inv : Sc
           seen = rw (earlier-next f i, inv .seen);
           small = in-limits (grown s (kindOf b) (countOf b)) (no-fault s i (length f / 512) b fine .3);
           checks = step ∙ rw fine;
-          holdings = counted Holdings (s .holdings) (inv .holdings);
-          placement = counted Placement (s .placement) (inv .placement);
-          claims = counted Claims (s .claims) (inv .claims);
+          holdings = count-next Holdings (s .holdings) (inv .holdings);
+          placement = count-next Placement (s .placement) (inv .placement);
+          claims = count-next Claims (s .claims) (inv .claims);
         }
 
 pub scan-done : (f : List ℕ) (i : ℕ) (s : SoFar) → length f / 512 ≤ i → Scanned f i s
@@ -152,6 +153,6 @@ pub scan-done : (f : List ℕ) (i : ℕ) (s : SoFar) → length f / 512 ≤ i �
 unfolding scanOf tablesIn blocksChecks firstOf
 scan-done f i s h inv =
     let none = blocks-none f i h in
-    let c : (kind : Kind) (count : ℕ) → Counted kind f i count → length (joined kind (blocksOf f)) / 32 ≡ count =
+    let c : (kind : Kind) (count : ℕ) → CountIs kind f i count → length (joined kind (blocksOf f)) / 32 ≡ count =
     λ kind count e. omega (arith, e, ap length (joined-none kind (blocksFrom f i) none)) in
     rw (inv .checks, none, c Holdings (s .holdings) (inv .holdings), c Placement (s .placement) (inv .placement), c Claims (s .claims) (inv .claims))

@@ -1,12 +1,11 @@
 -- Blocks before, nearest first, and the tables of which the writer would make them: one block more.
 use mathlib.Core.Path.{_≡_, refl, sym, ap, _∙_}
 use mathlib.Core.Bool.{Bool, true, false, cond}
-use mathlib.Core.List.{List, [], _∷_, _++_, append-assoc}
-use Prim.Native.Nat.{ℕ, suc, _+_, _-_, _*_, _%_, _≤_, _<_}
+use mathlib.Core.List.{List, [], _∷_, reverse, reverse-cons}
+use Prim.Native.Nat.{ℕ, zero, suc, _+_, _*_, _%_, _≤_, _<_}
 use native.Mathlib.Omega.{arith}
 use lib.Dec.{eqb}
 use lib.ListN.{length, take, drop, length-append}
-use borrow.Author.Tests.{eq-eqb, ne-eqb}
 use Rattle.records.specs.Bytes.{leAt}
 use Rattle.records.specs.Lists.{only, sum}
 use Rattle.records.specs.Tables.{tableNumber}
@@ -15,32 +14,12 @@ use Rattle.records.specs.declared.tables.Kind.the-variants.{Holdings, Placement
 use Rattle.blocks.specs.Block.{kindOf, countOf, recordsIn, blockOf}
 use Rattle.blocks.specs.File.{Tables, tables, tableOf, countAs, recordsAs, prevOf, blocksIn, blocksFor}
 use Rattle.blocks.proofs.FileLaws.{joinedBack}
-use Rattle.blocks.proofs.Adds.{added, add, table-add, May, parts-none, adds}
-
--- ---- blocks in reverse
-
-module _ {A : Type 0} where
-  -- xs turned around, before ys
-  unfoldable pub onto : List A → List A → List A
-  onto [] ys = ys
-  onto (x ∷ xs) ys = onto xs (x ∷ ys)
-
-  pub onto-append : (xs ys : List A) → onto xs ys ≡ onto xs [] ++ ys
-  unfolding onto
-  onto-append [] ys = refl
-  onto-append (x ∷ xs) ys = onto-append xs (x ∷ ys) ∙ sym (rw (onto-append xs (x ∷ [])) (append-assoc (onto xs []) (x ∷ []) ys))
-
-  pub onto-onto : (xs ys zs : List A) → onto (onto xs ys) zs ≡ onto ys (xs ++ zs)
-  unfolding onto
-  onto-onto [] ys zs = refl
-  onto-onto (x ∷ xs) ys zs = onto-onto xs (x ∷ ys) zs
-
--- ---- the state after some blocks
+use Rattle.blocks.proofs.Adds.{added, added-same, added-other, add, table-add, May, parts-none, adds}
 
 -- the blocks before, nearest first, are those that the writer would make of t
 pub record State (n : ℕ) (before : List (List ℕ)) (t : Tables) : Type 0 where
   pub joins : (k : Kind) → tableOf k t ≡ joinedBack k before
-  pub blocks : blocksFor n t ≡ onto before []
+  pub blocks : blocksFor n t ≡ reverse before
   pub count : blocksIn t ≡ length before
   pub sums : (k : Kind) → 32 * sum (countAs k) before ≡ length (tableOf k t)
   pub range : kindOf (prevOf before) ≤ 3
@@ -48,13 +27,13 @@ pub record State (n : ℕ) (before : List (List ℕ)) (t : Tables) : Type 0 wher
   pub last : (k : Kind) → kindOf (prevOf before) ≡ tableNumber k
       → (length (tableOf k t) % 480 ≡ 32 * countOf (prevOf before) % 480) × (1 ≤ length (tableOf k t)) × (1 ≤ countOf (prevOf before)) × (countOf (prevOf before) ≤ 15)
 
-none-of : (k : Kind) → tableOf k (tables [] [] []) ≡ []
+pub none-of : (k : Kind) → tableOf k (tables [] [] []) ≡ []
 none-of Holdings = refl
 none-of Placement = refl
 none-of Claims = refl
 
 pub start : (n : ℕ) → State n [] (tables [] [] [])
-unfolding joinedBack onto sum blocksFor leAt
+unfolding joinedBack sum blocksFor leAt
 start n =
     record {
       joins = none-of;
@@ -76,6 +55,14 @@ number-range Holdings = (omega arith, omega arith)
 number-range Placement = (omega arith, omega arith)
 number-range Claims = (omega arith, omega arith)
 
+-- the kind with a number
+pub kind-from : (m : ℕ) → 1 ≤ m → m ≤ 3 → (kind : Kind) × (m ≡ tableNumber kind)
+kind-from zero a b = absurd (omega arith)
+kind-from (suc zero) a b = (Holdings, refl)
+kind-from (suc (suc zero)) a b = (Placement, refl)
+kind-from (suc (suc (suc zero))) a b = (Claims, refl)
+kind-from (suc (suc (suc (suc m)))) a b = absurd (omega arith)
+
 -- one block more, of a kind that may come next
 module _ (n : ℕ) (before : List (List ℕ)) (t : Tables) (st : State n before t) (kind : Kind) (count : ℕ) (r b : List ℕ)
     (isKind : kindOf b ≡ tableNumber kind) (isCount : countOf b ≡ count) (isRecords : recordsIn b ≡ r)
@@ -88,33 +75,27 @@ module _ (n : ℕ) (before : List (List ℕ)) (t : Tables) (st : State n before 
       go true = isRecords
       go false = refl
 
-  counted : (k : Kind) → 32 * countAs k b ≡ length (added kind k r)
-  counted k = rw isKind (go (eqb (tableNumber kind) (tableNumber k)))
+  count-added : (k : Kind) → 32 * countAs k b ≡ length (added kind k r)
+  count-added k = rw isKind (go (eqb (tableNumber kind) (tableNumber k)))
     where
       go : (q : Bool) → 32 * only q (countOf b) ≡ length (cond q r [])
       go true = rw isCount (sym len)
       go false = refl
 
-  added-same : (k : Kind) → tableNumber kind ≡ tableNumber k → added kind k r ≡ r
-  added-same k e = rw (eq-eqb (tableNumber kind) (tableNumber k) e)
-
-  added-other : (k : Kind) → tableNumber kind < tableNumber k → added kind k r ≡ []
-  added-other k h = rw (ne-eqb (tableNumber kind) (tableNumber k) (λ e. omega arith))
-
   pub more : State n (b ∷ before) (add kind r t)
-  unfolding joinedBack onto sum
+  unfolding joinedBack sum
   more =
       let a = adds kind r n t (omega arith) (omega arith) may in
       record {
         joins = λ k. table-add kind k r t ∙ rw (st .joins k, records-added k);
-        blocks = a .0 ∙ rw (st .count, st .blocks, ← isBlock) (sym (onto-append before (b ∷ [])));
+        blocks = a .0 ∙ rw (st .count, st .blocks, ← isBlock) (sym (reverse-cons b before));
         count = a .1 ∙ ap suc (st .count);
-        sums = λ k. rw (table-add kind k r t, length-append (tableOf k t) (added kind k r)) (omega (arith, st .sums k, counted k));
+        sums = λ k. rw (table-add kind k r t, length-append (tableOf k t) (added kind k r)) (omega (arith, st .sums k, count-added k));
         range = rw isKind (number-range kind .1);
-        later = λ k h. table-add kind k r t ∙ rw (may .later k (rw isKind at h), added-other k (rw isKind at h));
+        later = λ k h. table-add kind k r t ∙ rw (may .later k (rw isKind at h), added-other kind k r (rw isKind at h));
         last = λ k e.
             let q : tableNumber kind ≡ tableNumber k = sym isKind ∙ e in
             let f = may .full k (sym q) in
-            let l = ap length (table-add kind k r t) ∙ length-append (tableOf k t) (added kind k r) ∙ ap (λ (s : List ℕ). length (tableOf k t) + length s) (added-same k q) in
+            let l = ap length (table-add kind k r t) ∙ length-append (tableOf k t) (added kind k r) ∙ ap (λ (s : List ℕ). length (tableOf k t) + length s) (added-same kind k r q) in
             (omega (arith, l, f, isCount, len), omega (arith, l, len, c1), omega (arith, isCount, c1), omega (arith, isCount, c15));
       }

@@ -1,16 +1,14 @@
--- The writer: a block more, a kind after the other, and how long the file is.
-use mathlib.Core.Path.{_≡_, refl, sym, ap, _∙_}
+-- The writer: a block more, a kind after the other, and what it answers in each case.
+use mathlib.Core.Path.{_≡_, sym, ap, _∙_}
 use mathlib.Core.Bool.{true, false, _&&_, not, and-eq-true-iff, false≢true}
-use mathlib.Core.List.{List, [], _∷_, _++_, append-assoc, append-nil}
+use mathlib.Core.List.{List, [], _∷_, _++_, append-assoc}
 use Prim.Native.Nat.{ℕ, zero, suc, _+_, _-_, _*_, _%_, _≤_, _<_, min}
-use native.Mathlib.Nat.{mul-suc}
 use native.Mathlib.Numerals.{add-one}
 use native.Mathlib.Omega.{arith}
 use lib.ListN.{length, take, drop, length-append, length-take, length-drop}
 use lib.Dec.{eqb}
 use borrow.Author.Tests.{le-leb, lt-leb}
 use borrow.Rule.Slice.PartMut.{putMid}
-use Rattle.records.specs.Lists.{All}
 use Rattle.records.specs.Chunks.{chunks, chunkAt}
 use Rattle.records.specs.Order.{refuse, firstOf}
 use Rattle.records.specs.Written.{putAt}
@@ -22,33 +20,12 @@ use Rattle.records.proofs.TableLaws.{whole}
 use Rattle.records.proofs.ChunkLaws.{length-chunks}
 use Rattle.records.proofs.PutLaws.{put-next, put-put}
 use Rattle.blocks.specs.Block.{blockOf}
-use Rattle.blocks.specs.File.{Tables, tables, blockCount, blocksIn, numbered, blocksFor, flat, blocksOfKind, fileOf}
-use Rattle.blocks.specs.Writer.{takenTables, fieldsOf, writeChecks, writeRoom, writeOf}
+use Rattle.blocks.specs.File.{Tables, tables, blockCount, blocksIn, numbered, blocksFor, flat, blocksOfKind, fileOf, recordChecks}
+use Rattle.blocks.specs.Writer.{takenTables, writeChecks, writeRoom, writeOf}
 use Rattle.blocks.specs.declared.writer.Writing.the-variants.{Wrote, Refused}
 use Rattle.blocks.proofs.BlockLaws.{length-block}
-use Rattle.blocks.proofs.ListMore.{take-min, chunks-snoc, chunks-short}
-
-pub flat-append : (a b : List (List ℕ)) → flat (a ++ b) ≡ flat a ++ flat b
-unfolding flat
-flat-append [] b = refl
-flat-append (x ∷ a) b = rw (flat-append a b) (sym (append-assoc x (flat a) (flat b)))
-
-flat-one : (b : List ℕ) → flat (b ∷ []) ≡ b
-unfolding flat
-flat-one b = append-nil b
-
-pub numbered-append : (kind i n : ℕ) (a b : List (List ℕ)) → numbered kind i n (a ++ b) ≡ numbered kind i n a ++ numbered kind (i + length a) n b
-unfolding numbered
-numbered-append kind i n [] b = let q : i + 0 ≡ i = omega arith in rw q
-numbered-append kind i n (r ∷ a) b =
-    let q : i + suc (length a) ≡ i + 1 + length a = omega arith in
-    rw q (ap (λ (l : List (List ℕ)). blockOf kind i n r ∷ l) (numbered-append kind (i + 1) n a b))
-
-pub length-numbered : (kind i n : ℕ) (rs : List (List ℕ)) → All (λ r. length r ≤ 480) rs → length (flat (numbered kind i n rs)) ≡ 512 * length rs
-unfolding numbered flat
-length-numbered kind i n [] s = refl
-length-numbered kind i n (r ∷ rs) s =
-    simp (length-append, length-numbered kind (i + 1) n rs (s .1), length-block kind i n r (s .0)) (omega (arith, mul-suc 512 (length rs)))
+use Rattle.blocks.proofs.FlatLaws.{flat-append, flat-one, length-flat, numbered-append, length-numbered, numbered-whole, length-file}
+use Rattle.blocks.proofs.PartLaws.{take-min, chunks-snoc, chunks-short}
 
 -- the bytes of the first k blocks of a kind
 abbrev pub writtenTo : ℕ → ℕ → ℕ → List ℕ → ℕ → List ℕ
@@ -56,7 +33,8 @@ writtenTo kind i n xs k = flat (numbered kind i n (chunks 480 k xs))
 
 pub length-written : (kind i n : ℕ) (xs : List ℕ) (k : ℕ) → length (writtenTo kind i n xs k) ≡ 512 * k
 length-written kind i n xs k =
-    length-numbered kind i n (chunks 480 k xs) (chunks-short 480 k xs) ∙ ap (λ (m : ℕ). 512 * m) (length-chunks 480 k xs)
+    length-flat (numbered kind i n (chunks 480 k xs)) (numbered-whole kind i n (chunks 480 k xs) (chunks-short 480 k xs))
+    ∙ ap (λ (m : ℕ). 512 * m) (length-numbered kind i n (chunks 480 k xs) ∙ length-chunks 480 k xs)
 
 written-more : (kind i n : ℕ) (xs : List ℕ) (k : ℕ) → writtenTo kind i n xs (k + 1) ≡ writtenTo kind i n xs k ++ blockOf kind (i + k) n (chunkAt 480 xs k)
 unfolding numbered
@@ -96,30 +74,24 @@ file-parts : (n : ℕ) (h p c : List ℕ)
 unfolding blocksFor blocksOfKind
 file-parts n h p c = simp flat-append
 
-pub length-blocks : (n : ℕ) (t : Tables) → length (flat (blocksFor n t)) ≡ 512 * blocksIn t
-length-blocks n t =
-    rw (file-parts n (t .holdings) (t .placement) (t .claims)) (simp (length-append, length-kind) (omega arith))
-
-pub length-file : (t : Tables) → length (fileOf t) ≡ 512 * blocksIn t
-unfolding fileOf
-length-file t = length-blocks (blocksIn t) t
-
-pub file-put : (d d₁ d₂ d₃ h p c : List ℕ) (a b : ℕ)
-    → d₁ ≡ putAt d 0 (blocksOfKind 1 0 (blocksIn (tables h p c)) h) → a ≡ 0 + 512 * blockCount (length h)
-    → d₂ ≡ putAt d₁ a (blocksOfKind 2 (blockCount (length h)) (blocksIn (tables h p c)) p) → b ≡ a + 512 * blockCount (length p)
-    → d₃ ≡ putAt d₂ b (blocksOfKind 3 (blockCount (length h) + blockCount (length p)) (blocksIn (tables h p c)) c)
+-- the three kinds' writes, one after another, with the numbers of blocks that were counted
+pub file-put : (d d₁ d₂ d₃ h p c : List ℕ) (a b m₁ m₂ n : ℕ)
+    → m₁ ≡ blockCount (length h) → m₂ ≡ blockCount (length p) → n ≡ blocksIn (tables h p c)
+    → d₁ ≡ putAt d 0 (blocksOfKind 1 0 n h) → a ≡ 0 + 512 * blockCount (length h)
+    → d₂ ≡ putAt d₁ a (blocksOfKind 2 m₁ n p) → b ≡ a + 512 * blockCount (length p)
+    → d₃ ≡ putAt d₂ b (blocksOfKind 3 (m₁ + m₂) n c)
     → d₃ ≡ putAt d 0 (fileOf (tables h p c))
 unfolding fileOf
-file-put d d₁ d₂ d₃ h p c a b e₁ ea e₂ eb e₃ =
-    let n = blocksIn (tables h p c) in
-    let B₁ = blocksOfKind 1 0 n h in
-    let B₂ = blocksOfKind 2 (blockCount (length h)) n p in
-    let B₃ = blocksOfKind 3 (blockCount (length h) + blockCount (length p)) n c in
-    let l₁ = length-kind 1 0 n h in
-    let l₂ = length-kind 2 (blockCount (length h)) n p in
-    let two : d₂ ≡ putAt d 0 (B₁ ++ B₂) = rw (e₂, e₁) (put-put d B₁ B₂ 0 a (omega arith) (omega (arith, l₁))) in
+file-put d d₁ d₂ d₃ h p c a b m₁ m₂ n k₁ k₂ k e₁ ea e₂ eb e₃ =
+    let N = blocksIn (tables h p c) in
+    let B₁ = blocksOfKind 1 0 N h in
+    let B₂ = blocksOfKind 2 (blockCount (length h)) N p in
+    let B₃ = blocksOfKind 3 (blockCount (length h) + blockCount (length p)) N c in
+    let l₁ = length-kind 1 0 N h in
+    let l₂ = length-kind 2 (blockCount (length h)) N p in
+    let two : d₂ ≡ putAt d 0 (B₁ ++ B₂) = rw (e₂, e₁, k₁, k) (put-put d B₁ B₂ 0 a (omega arith) (omega (arith, l₁))) in
     let lb : b ≡ 0 + length (B₁ ++ B₂) = simp length-append (omega (arith, l₁, l₂)) in
-    rw (e₃, two) (put-put d (B₁ ++ B₂) B₃ 0 b (omega arith) lb ∙ ap (putAt d 0) (append-assoc B₁ B₂ B₃ ∙ sym (file-parts n h p c)))
+    rw (e₃, two, k₁, k₂, k) (put-put d (B₁ ++ B₂) B₃ 0 b (omega arith) lb ∙ ap (putAt d 0) (append-assoc B₁ B₂ B₃ ∙ sym (file-parts N h p c)))
 
 -- ---- what the writer answers
 
@@ -158,15 +130,15 @@ module _ (t : Tables) (room : ℕ) where
   write-1 e = rw e
 
   module _ (e : takenTables (length (t .holdings)) (length (t .placement)) (length (t .claims)) ≡ true) where
-    pub write-4 : (r : Refusal) → firstOf (fieldsOf t) ≡ Is r → writeOf t room ≡ Refused r
+    pub write-4 : (r : Refusal) → firstOf (recordChecks t) ≡ Is r → writeOf t room ≡ Refused r
     unfolding writeOf writeChecks firstOf
-    write-4 r f = rw (e, first-append (fieldsOf t) (writeRoom t room), f)
+    write-4 r f = rw (e, first-append (recordChecks t) (writeRoom t room), f)
 
-    module _ (f : firstOf (fieldsOf t) ≡ Nothing) where
+    module _ (f : firstOf (recordChecks t) ≡ Nothing) where
       pub write-17 : room < 512 * blocksIn t → writeOf t room ≡ Refused (refuse 17 0 (512 * blocksIn t))
       unfolding writeOf writeChecks firstOf
-      write-17 h = rw (e, first-append (fieldsOf t) (writeRoom t room), f, length-file t, lt-leb (512 * blocksIn t) room h)
+      write-17 h = rw (e, first-append (recordChecks t) (writeRoom t room), f, length-file t, lt-leb (512 * blocksIn t) room h)
 
       pub write-done : 512 * blocksIn t ≤ room → writeOf t room ≡ Wrote (length (fileOf t))
       unfolding writeOf writeChecks firstOf
-      write-done h = rw (e, first-append (fieldsOf t) (writeRoom t room), f, length-file t, le-leb (512 * blocksIn t) room h)
+      write-done h = rw (e, first-append (recordChecks t) (writeRoom t room), f, length-file t, le-leb (512 * blocksIn t) room h)

@@ -1,6 +1,6 @@
 -- One block of 512 bytes, field by field, and the block that the writer makes.
 use Prim.Native.Nat.{ℕ, _+_, _-_, _*_, _/_, _%_}
-use mathlib.Core.Bool.{Bool, true, false, cond, _&&_}
+use mathlib.Core.Bool.{Bool, true, false, _&&_}
 use mathlib.Core.List.{List, [], _∷_, _++_}
 use lib.Dec.{eqb}
 use lib.ListN.{length, take, drop, replicate}
@@ -14,7 +14,7 @@ unfoldable pub same : List ℕ → List ℕ → Bool
 same [] [] = true
 same [] (y ∷ ys) = false
 same (x ∷ xs) [] = false
-same (x ∷ xs) (y ∷ ys) = cond (eqb x y) (same xs ys) false
+same (x ∷ xs) (y ∷ ys) = eqb x y && same xs ys
 
 abbrev pub isZero : ℕ → Bool
 isZero x = eqb x 0

@@ -8,7 +8,7 @@ use Rattle.records.specs.Chunks.{chunks}
 use Rattle.records.specs.Dates.{within}
 use Rattle.records.specs.Lists.{only, sum}
 use Rattle.records.specs.Order.{Check, ask}
-use Rattle.records.specs.Tables.{tableNumber, limitOf}
+use Rattle.records.specs.Tables.{tableNumber, limitOf, fieldsChecks}
 use Rattle.records.specs.declared.tables.Kind.{Kind}
 use Rattle.records.specs.declared.tables.Kind.the-variants.{Holdings, Placement, Claims}
 use Rattle.blocks.specs.Block.{kindOf, countOf, sumsAgree, formed, blockOf}
@@ -26,6 +26,10 @@ abbrev pub tableOf : Kind → Tables → List ℕ
 tableOf Holdings t = t .holdings
 tableOf Placement t = t .placement
 tableOf Claims t = t .claims
+
+-- 'then records by table (4)'
+abbrev pub recordChecks : Tables → List Check
+recordChecks t = fieldsChecks (t .holdings) (t .placement) (t .claims)
 
 -- ---- reading
 
@@ -93,6 +97,7 @@ fileChecks file = ask (wholeFile (length file)) 1 0 0 ∷ blocksChecks (length f
 abbrev pub blockCount : ℕ → ℕ
 blockCount bytes = (bytes + 479) / 480
 
+-- how many blocks three tables take
 abbrev pub blocksIn : Tables → ℕ
 blocksIn t = blockCount (length (t .holdings)) + blockCount (length (t .placement)) + blockCount (length (t .claims))
 
@@ -105,6 +110,7 @@ unfoldable pub numbered : ℕ → ℕ → ℕ → List (List ℕ) → List (List
 numbered kind number n [] = []
 numbered kind number n (r ∷ rs) = blockOf kind number n r ∷ numbered kind (number + 1) n rs
 
+-- the blocks of three tables, in a file of n blocks
 unfoldable pub blocksFor : ℕ → Tables → List (List ℕ)
 blocksFor n t =
     numbered 1 0 n (partsOf (t .holdings))

@@ -8,15 +8,14 @@ use Rattle.records.specs.Written.{putAt}
 use Rattle.records.specs.declared.refusals.Fault.{Fault}
 use Rattle.records.specs.declared.refusals.Fault.the-variants.{Nothing, Is}
 use Rattle.records.specs.declared.tables.Kind.{Kind}
-use Rattle.blocks.specs.File.{Tables, tablesIn, tableOf, fileChecks}
-use Rattle.blocks.specs.Writer.{fieldsOf}
+use Rattle.blocks.specs.File.{Tables, tablesIn, tableOf, fileChecks, recordChecks}
 use Rattle.blocks.specs.declared.reader.Counts.{Counts}
 use Rattle.blocks.specs.declared.reader.Reading.{Reading}
 use Rattle.blocks.specs.declared.reader.Reading.the-variants.{Read, Refused}
 
 -- refusals 1 to 4: of the file, of its blocks in file order, of its records by table
 unfoldable pub readChecks : List ℕ → List Check
-readChecks file = fileChecks file ++ fieldsOf (tablesIn file)
+readChecks file = fileChecks file ++ recordChecks (tablesIn file)
 
 -- refusal 17 of the reader: 'first short table, bytes needed'
 abbrev pub readRoom : Tables → ℕ → ℕ → ℕ → List Check

@@ -31,6 +31,7 @@ soFar before =
       claims = sum (countAs Claims) before;
     }
 
+-- with one block more
 abbrev pub grown : SoFar → ℕ → ℕ → SoFar
 grown s kind count =
     record {
@@ -41,21 +42,24 @@ grown s kind count =
       claims = only (eqb kind 3) count + s .claims;
     }
 
+-- `follows`, of what the scan keeps
 abbrev pub mayFollow : SoFar → ℕ → Bool
 mayFollow s kind = leb (s .kind) kind && (not (eqb (s .kind) kind) || eqb (s .count) 15)
 
+-- `withinLimits`, of what the scan keeps
 abbrev pub inLimits : SoFar → Bool
 inLimits s =
     leb (s .holdings) (limitOf Holdings) && leb (s .placement) (limitOf Placement) && leb (s .claims) (limitOf Claims)
 
+-- what `inLimits` says, as numbers
 pub record Small (s : SoFar) : Type 0 where
   pub holdings : s .holdings ≤ 256
   pub placement : s .placement ≤ 256
   pub claims : s .claims ≤ 32
 
--- 2 or 3, or 0 where block `number` of so many may stand after those so far
-unfoldable pub faultNumber : SoFar → ℕ → ℕ → List ℕ → ℕ
-faultNumber s number blocks b =
+-- the fault of block `number` of so many, after those so far: 2 or 3, or 0 where it has none
+unfoldable pub blockFault : SoFar → ℕ → ℕ → List ℕ → ℕ
+blockFault s number blocks b =
     cond (sumsAgree b)
     (cond (formed number blocks b)
     (cond (mayFollow s (kindOf b) && inLimits (grown s (kindOf b) (countOf b))) 0 3)

@@ -5,12 +5,12 @@ use mathlib.Core.List.{List, [], _∷_, _++_}
 use lib.Dec.{eqb, leb}
 use lib.ListN.{length}
 use Rattle.records.specs.Order.{Check, ask, firstOf}
-use Rattle.records.specs.Tables.{wholeTable, fieldsChecks}
+use Rattle.records.specs.Tables.{wholeTable}
 use Rattle.records.specs.Written.{putAt}
 use Rattle.records.specs.declared.refusals.Fault.{Fault}
 use Rattle.records.specs.declared.refusals.Fault.the-variants.{Nothing, Is}
 use Rattle.records.specs.declared.tables.Kind.the-variants.{Holdings, Placement, Claims}
-use Rattle.blocks.specs.File.{Tables, fileOf}
+use Rattle.blocks.specs.File.{Tables, recordChecks, fileOf}
 use Rattle.blocks.specs.declared.writer.Writing.{Writing}
 use Rattle.blocks.specs.declared.writer.Writing.the-variants.{Wrote, Refused}
 
@@ -22,13 +22,9 @@ takenTables h p c =
     && wholeTable Claims c
     && not (eqb h 0 && eqb p 0 && eqb c 0)
 
--- refusal 4, 'records by table'
-abbrev pub fieldsOf : Tables → List Check
-fieldsOf t = fieldsChecks (t .holdings) (t .placement) (t .claims)
-
 -- 'The writer gives 1, 4, 17.'
 unfoldable pub writeChecks : Tables → List Check
-writeChecks t = ask (takenTables (length (t .holdings)) (length (t .placement)) (length (t .claims))) 1 0 0 ∷ fieldsOf t
+writeChecks t = ask (takenTables (length (t .holdings)) (length (t .placement)) (length (t .claims))) 1 0 0 ∷ recordChecks t
 
 -- refusal 17 of the writer: '0, bytes needed', for a buffer of so many bytes
 abbrev pub writeRoom : Tables → ℕ → List Check

@@ -1,6 +1,6 @@
 // Copies the records of a file without a fault into a lent table.
 ghost use mathlib.Core.Path.{_≡_};
-ghost use Prim.Native.Nat.{_%_, _≤_};
+ghost use Prim.Native.Nat.{_≤_};
 ghost use lib.ListN.{length};
 ghost use Rattle.records.specs.Lists.{All};
 ghost use Rattle.records.specs.Written.{putAt};
@@ -14,7 +14,6 @@ use records::Kind;
 
 // The records of one kind, block after block, from byte 0 of its table on; what lies past them stays.
 pub(crate) fn copy_kind(file: &[u8], kind: Kind, table: &mut [u8])
-    requires { ⌜ (length (now file) ≤ 19968) × (length (now file) % 512 ≡ 0) ⌝ }
     requires { ⌜ All Sized (blocksOf (now file)) ⌝ }
     requires { ⌜ length (joined kind (blocksOf (now file))) ≤ length (now table) ⌝ }
     ensures { λ _. ⌜ now (table .exit) ≡ putAt (now (table .entry)) 0 (joined kind (blocksOf (now (file .entry)))) ⌝ }

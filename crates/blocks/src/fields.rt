@@ -1,15 +1,15 @@
 // Refusal 4, judged on the records where they stand in the file, before anything is copied.
 ghost use mathlib.Core.Path.{_≡_};
-ghost use Prim.Native.Nat.{_+_, _*_, _/_, _%_, _≤_};
-ghost use lib.ListN.{length};
+ghost use Prim.Native.Nat.{_*_, _≤_};
 ghost use Rattle.records.specs.Lists.{All};
 ghost use Rattle.records.specs.Chunks.{recordsOf};
 ghost use Rattle.records.specs.Order.{firstOf};
 ghost use Rattle.records.specs.Tables.{goodRecord, fieldChecks};
-ghost use Rattle.blocks.specs.File.{blocksOf, countAs, joined, tablesIn};
-ghost use Rattle.blocks.specs.Writer.{fieldsOf};
+ghost use Rattle.blocks.specs.File.{blocksOf, countAs, joined, tablesIn, recordChecks};
 ghost use Rattle.blocks.specs.Steps.{Sized, goodFront};
 use crate::form::BLOCK_BYTES;
+use crate::form::COUNT_AT;
+use crate::form::KIND_AT;
 use crate::form::RECORDS_AT;
 use crate::form::kind_number;
 use crate::scanner::counted_as;
@@ -24,7 +24,7 @@ pub(crate) fn bytes_as(kind: Kind, block: &[u8]) -> usize
     requires { ⌜ Sized (now block) ⌝ }
     ensures { λ r. ⌜ (r ≡ 32 * countAs kind (now (block .entry))) × (r ≤ 480) ⌝ }
 {
-    RECORD_BYTES * counted_as(kind_number(kind), block[4], block[5])
+    RECORD_BYTES * counted_as(kind_number(kind), block[KIND_AT], block[COUNT_AT])
 }
 
 // How many records stand before the first that has a field out of range: all, where none has.
@@ -47,7 +47,6 @@ fn good_front(kind: Kind, records: &[u8]) -> usize
 
 // The first record of a kind with a field out of range, counted over the kind's blocks.
 fn kind_fault(file: &[u8], kind: Kind) -> Fault
-    requires { ⌜ (length (now file) ≤ 19968) × (length (now file) % 512 ≡ 0) ⌝ }
     requires { ⌜ All Sized (blocksOf (now file)) ⌝ }
     ensures { λ r. ⌜ r ≡ firstOf (fieldChecks kind (joined kind (blocksOf (now (file .entry))))) ⌝ }
 {
@@ -76,9 +75,8 @@ fn kind_fault(file: &[u8], kind: Kind) -> Fault
 
 // Refusal 4, by table and then by record, of a file whose blocks have no fault.
 pub(crate) fn file_fields_fault(file: &[u8]) -> Fault
-    requires { ⌜ (length (now file) ≤ 19968) × (length (now file) % 512 ≡ 0) ⌝ }
     requires { ⌜ All Sized (blocksOf (now file)) ⌝ }
-    ensures { λ r. ⌜ r ≡ firstOf (fieldsOf (tablesIn (now (file .entry)))) ⌝ }
+    ensures { λ r. ⌜ r ≡ firstOf (recordChecks (tablesIn (now (file .entry)))) ⌝ }
 {
     match kind_fault(file, Kind::Holdings) {
         Fault::Is(refusal) => Fault::Is(refusal),

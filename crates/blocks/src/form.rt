@@ -9,9 +9,13 @@ use records::Kind;
 use records::RECORD_BYTES;
 use records::u16_at;
 
-// Where things stand in a block of 512 bytes: the records, of 32 bytes each, from byte 16 on, bytes
-// 496 to 507 after the last of 15, and the checks after those.
+// Where things stand in a block of 512 bytes: kind and count in its first 16, the records, of 32
+// bytes each, from byte 16 on, bytes 496 to 507 after the last of 15, and the checks after those.
 pub(crate) const BLOCK_BYTES: usize = 512;
+
+pub(crate) const KIND_AT: usize = 4;
+
+pub(crate) const COUNT_AT: usize = 5;
 
 pub(crate) const RECORDS_AT: usize = 16;
 
@@ -72,8 +76,8 @@ fn head_fits(block: &[u8], number: u16, blocks: u16) -> bool
     ensures { λ r. ⌜ r ≡ headFits number blocks (now (block .entry)) ⌝ }
 {
     let mark = MARK;
-    let kind = block[4];
-    let count = block[5];
+    let kind = block[KIND_AT];
+    let count = block[COUNT_AT];
     equal(&block[0..4], &mark)
         & ((1 <= kind) & (kind <= 3))
         & ((1 <= count) & (count <= FULL))
@@ -96,7 +100,7 @@ pub(crate) fn well_formed(block: &[u8], number: u16, blocks: u16) -> bool
     ensures { λ r. ⌜ r ≡ formed number blocks (now (block .entry)) ⌝ }
 {
     if head_fits(block, number, blocks) {
-        let end = RECORDS_AT + RECORD_BYTES * (block[5] as usize);
+        let end = RECORDS_AT + RECORD_BYTES * (block[COUNT_AT] as usize);
         return all_zero(&block[end..TAIL_AT]) & tail_fits(block);
     }
     false

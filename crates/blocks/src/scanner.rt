@@ -7,10 +7,12 @@ ghost use lib.ListN.{length};
 ghost use Rattle.records.specs.Lists.{only};
 ghost use lib.Dec.{eqb};
 ghost use Rattle.blocks.specs.File.{wholeFile};
-ghost use Rattle.blocks.specs.Steps.{Small, nothingYet, grown, mayFollow, inLimits, faultNumber, scanOf};
+ghost use Rattle.blocks.specs.Steps.{Small, nothingYet, grown, mayFollow, inLimits, blockFault, scanOf};
 use crate::checks::sums_agree;
 use crate::form::BLOCK_BYTES;
+use crate::form::COUNT_AT;
 use crate::form::FULL;
+use crate::form::KIND_AT;
 use crate::form::well_formed;
 use crate::reader::Counts;
 use crate::reader::Reading;
@@ -86,12 +88,12 @@ impl SoFar {
 // The refusal's number, of block `number` after those so far: 2, 3, or 0 where nothing is wrong.
 fn block_fault(seen: SoFar, block: &[u8], number: u16, blocks: u16) -> u8
     requires { ⌜ Small seen × (length (now block) ≡ 512) ⌝ }
-    ensures { λ r. ⌜ r ≡ faultNumber seen number blocks (now (block .entry)) ⌝ }
+    ensures { λ r. ⌜ r ≡ blockFault seen number blocks (now (block .entry)) ⌝ }
 {
     if sums_agree(block) {
         if well_formed(block, number, blocks) {
-            let next = seen.with(block[4], block[5]);
-            if seen.may_follow(block[4]) & next.in_limits() {
+            let next = seen.with(block[KIND_AT], block[COUNT_AT]);
+            if seen.may_follow(block[KIND_AT]) & next.in_limits() {
                 return 0;
             }
         }
@@ -120,7 +122,7 @@ pub(crate) fn scan(file: &[u8]) -> Reading
                 place: i,
             });
         }
-        seen = seen.with(block[4], block[5]);
+        seen = seen.with(block[KIND_AT], block[COUNT_AT]);
         i += 1;
     }
     Reading::Read(Counts {

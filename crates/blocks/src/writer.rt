@@ -6,8 +6,8 @@ ghost use lib.ListN.{length};
 ghost use Rattle.records.specs.Written.{putAt};
 ghost use Rattle.records.specs.Order.{firstOf};
 ghost use Rattle.records.specs.declared.refusals.Fault.the-variants.{Nothing};
-ghost use Rattle.blocks.specs.File.{tables, blockCount, blocksIn, blocksOfKind, fileOf};
-ghost use Rattle.blocks.specs.Writer.{takenTables, fieldsOf, writeOf, filled};
+ghost use Rattle.blocks.specs.File.{tables, blockCount, blocksIn, blocksOfKind, fileOf, recordChecks};
+ghost use Rattle.blocks.specs.Writer.{takenTables, writeOf, filled};
 use crate::filler::fill_block;
 use crate::form::BLOCK_BYTES;
 use crate::form::FULL_BYTES;
@@ -106,7 +106,7 @@ fn tables_taken(holdings: usize, placement: usize, claims: usize) -> bool
 // Refusal 17 where the buffer is too short, and otherwise the file.
 fn put_with_room(holdings: &[u8], placement: &[u8], claims: &[u8], out: &mut [u8]) -> Writing
     requires { ⌜ takenTables (length (now holdings)) (length (now placement)) (length (now claims)) ≡ true ⌝ }
-    requires { ⌜ firstOf (fieldsOf (tables (now holdings) (now placement) (now claims))) ≡ Nothing ⌝ }
+    requires { ⌜ firstOf (recordChecks (tables (now holdings) (now placement) (now claims))) ≡ Nothing ⌝ }
     ensures { λ r. ⌜ r ≡ writeOf (tables (now (holdings .entry)) (now (placement .entry)) (now (claims .entry))) (length (now (out .entry))) ⌝ }
     ensures { λ r. ⌜ now (out .exit) ≡ filled r (tables (now (holdings .entry)) (now (placement .entry)) (now (claims .entry))) (now (out .entry)) ⌝ }
 {

@@ -1,8 +1,8 @@
 -- Laws of sums, greatest values, choices and claims about all, over any list.
 use mathlib.Core.Path.{_≡_, refl}
 use mathlib.Core.Bool.{Bool, true, false, cond, not, and-eq-true-iff}
-use mathlib.Core.List.{List, [], _∷_, _++_, List·Memᴰ, List·Memᴰ·head, List·Memᴰ·tail}
-use Prim.Native.Nat.{ℕ, suc, _+_, _*_, _-_, _≤_, _<_, max}
+use mathlib.Core.List.{List, [], _∷_, _++_, map, List·Memᴰ, List·Memᴰ·head, List·Memᴰ·tail}
+use Prim.Native.Nat.{ℕ, suc, _+_, _*_, _≤_, _<_}
 use native.Mathlib.Nat.{le-trans, le-max-left, le-max-right}
 use native.Mathlib.Decide.{decLe}
 use native.Mathlib.Omega.{arith}
@@ -13,6 +13,14 @@ pub only-split : (b : Bool) (n : ℕ) → n ≡ only b n + only (not b) n
 only-split true n = omega arith
 only-split false n = omega arith
 
+pub only-le : (b : Bool) (n : ℕ) → only b n ≤ n
+only-le true n = omega arith
+only-le false n = omega arith
+
+pub map-all : {A B : Type 0} (f : A → B) (P : B → Type 0) (Q : A → Type 0) (l : List A) → ((x : A) → Q x → P (f x)) → All Q l → All P (map f l)
+map-all f P Q [] h a = tt
+map-all f P Q (x ∷ l) h a = (h x (a .0), map-all f P Q l h (a .1))
+
 module _ {A : Type 0} where
   pub all-map : {P Q : A → Type 0} (l : List A) → ((x : A) → P x → Q x) → All P l → All Q l
   all-map [] f a = tt
@@ -21,6 +29,10 @@ module _ {A : Type 0} where
   pub all-zip : {P Q R : A → Type 0} (l : List A) → ((x : A) → P x → Q x → R x) → All P l → All Q l → All R l
   all-zip [] f a b = tt
   all-zip (x ∷ xs) f a b = (f x (a .0) (b .0), all-zip xs f (a .1) (b .1))
+
+  pub all-append : (P : A → Type 0) (a b : List A) → All P a → All P b → All P (a ++ b)
+  all-append P [] b p q = q
+  all-append P (x ∷ a) b p q = (p .0, all-append P a b (p .1) q)
 
   pub every : {P : A → Type 0} (l : List A) → ((x : A) → P x) → All P l
   every [] f = tt
@@ -116,16 +128,6 @@ module _ {A : Type 0} where
   sum-bound f b [] a = omega arith
   sum-bound f b (x ∷ xs) a = omega (arith, a .0, sum-bound f b xs (a .1))
 
-  -- the greatest over those that pass is the greatest over all, where the others count 0
-  pub most-keep : (f : A → ℕ) (t : A → Bool) (l : List A) → most f (keep t l) ≡ most (λ x. only (t x) (f x)) l
-  unfolding most keep
-  most-keep f t [] = refl
-  most-keep f t (x ∷ xs) = go (t x) (most-keep f t xs)
-    where
-      go : (b : Bool) → most f (keep t xs) ≡ most (λ x. only (t x) (f x)) xs → most f (cond b (x ∷ keep t xs) (keep t xs)) ≡ max (only b (f x)) (most (λ x. only (t x) (f x)) xs)
-      go true e = omega arith
-      go false e = omega arith
-
   pub keep-in : (t : A → Bool) (x : A) (l ls : List A) → l ≡ x ∷ ls → t x ≡ true → keep t l ≡ x ∷ keep t ls
   unfolding keep
   keep-in t x l ls e h = rw (e, h)
@@ -137,16 +139,6 @@ module _ {A : Type 0} where
   pub keep-none : (t : A → Bool) (l : List A) → l ≡ [] → keep t l ≡ []
   unfolding keep
   keep-none t l e = rw e
-
-  -- what passes a test, of those that are kept by it
-  pub all-kept : (t : A → Bool) (l : List A) → All (λ x. t x ≡ true) (keep t l)
-  unfolding keep
-  all-kept t [] = tt
-  all-kept t (x ∷ xs) = go (t x) refl (all-kept t xs)
-    where
-      go : (b : Bool) → t x ≡ b → All (λ y. t y ≡ true) (keep t xs) → All (λ y. t y ≡ true) (cond b (x ∷ keep t xs) (keep t xs))
-      go true e r = (e, r)
-      go false e r = r
 
   -- ---- tests of all elements
 

@@ -11,6 +11,7 @@ use Rattle.records.specs.Order.{Check, refuse, firstOf, askEach, groups,
 use Rattle.records.specs.declared.refusals.Refusal.{Refusal}
 use Rattle.records.specs.declared.refusals.Fault.{Fault}
 use Rattle.records.specs.declared.refusals.Fault.the-variants.{Nothing, Is}
+use Rattle.records.proofs.ListLaws.{all-append}
 
 -- ---- a search through the elements of a list, l being what is left of it from i on
 
@@ -101,8 +102,7 @@ pass-right [] b p = p
 pass-right (c ∷ a) b p = pass-right a b (p .1)
 
 pub pass-both : (a b : List Check) → Pass a → Pass b → Pass (a ++ b)
-pass-both [] b p q = q
-pass-both (c ∷ a) b p q = (p .0, pass-both a b (p .1) q)
+pass-both a b p q = all-append (λ c. c .holds ≡ true) a b p q
 
 module _ {A : Type 0} (good : A → Bool) (number table : ℕ) where
   pub pass-each : (i : ℕ) (l : List A) → Pass (askEach good number table i l) → All (λ x. good x ≡ true) l

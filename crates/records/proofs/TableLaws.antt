@@ -2,7 +2,7 @@
 use Prim.Native.Nat.{ℕ, _/_, _%_, _≤_}
 use mathlib.Core.Path.{_≡_}
 use mathlib.Core.Bool.{true, _&&_, and-eq-true-iff}
-use mathlib.Core.List.{List, [], _∷_, map}
+use mathlib.Core.List.{List}
 use lib.Dec.{eqb, leb}
 use lib.ListN.{length}
 use borrow.Author.Tests.{eqb-true, leb-true}
@@ -20,7 +20,8 @@ use Rattle.records.specs.declared.legs.Leg.{Leg}
 use Rattle.records.specs.declared.claims.Claim.{Claim}
 use Rattle.records.specs.declared.refusals.Fault.the-variants.{Nothing}
 use Rattle.records.specs.declared.tables.Kind.{Kind}
-use Rattle.records.specs.declared.tables.Kind.the-variants.{Holdings, Placement, Claims}
+use Rattle.records.specs.declared.tables.Kind.the-variants.{Placement}
+use Rattle.records.proofs.ListLaws.{map-all}
 use Rattle.records.proofs.ChunkLaws.{length-chunks}
 use Rattle.records.proofs.OrderLaws.{clear, pass-each}
 
@@ -117,23 +118,11 @@ whole kind bytes e =
     let p = and-eq-true-iff (eqb (bytes % 32) 0) (leb (bytes / 32) (limitOf kind)) .0 e in
     (eqb-true (bytes % 32) 0 (p .0), leb-true (bytes / 32) (limitOf kind) (p .1))
 
-map-all : {A B : Type 0} (f : A → B) (P : B → Type 0) (Q : A → Type 0) (l : List A) → ((x : A) → Q x → P (f x)) → All Q l → All P (map f l)
-map-all f P Q [] h a = tt
-map-all f P Q (x ∷ l) h a = (h x (a .0), map-all f P Q l h (a .1))
-
 pub fields-good : (kind : Kind) (xs : List ℕ) → firstOf (fieldChecks kind xs) ≡ Nothing → All (λ r. goodRecord kind r ≡ true) (recordsOf xs)
 unfolding fieldChecks
 fields-good kind xs e = pass-each (goodRecord kind) 4 (tableNumber kind) 0 (recordsOf xs) (clear _ e)
 
--- the bounds of every leg of a table whose fields are in range
-pub holdings-ranges : (xs : List ℕ) → firstOf (fieldChecks Holdings xs) ≡ Nothing → All (Ranges 0) (legsOf xs)
-unfolding legsOf
-holdings-ranges xs e = map-all legOf (Ranges 0) (λ r. goodLeg 0 r ≡ true) (recordsOf xs) (good-ranges 0) (fields-good Holdings xs e)
-
+-- the bounds of every leg of a placement whose fields are in range
 pub placement-ranges : (xs : List ℕ) → firstOf (fieldChecks Placement xs) ≡ Nothing → All (Ranges 32) (legsOf xs)
 unfolding legsOf
 placement-ranges xs e = map-all legOf (Ranges 32) (λ r. goodLeg 32 r ≡ true) (recordsOf xs) (good-ranges 32) (fields-good Placement xs e)
-
-pub claims-ranges : (xs : List ℕ) → firstOf (fieldChecks Claims xs) ≡ Nothing → All ClaimRanges (claimsOf xs)
-unfolding claimsOf
-claims-ranges xs e = map-all claimOf ClaimRanges (λ r. goodClaim r ≡ true) (recordsOf xs) claim-ranges (fields-good Claims xs e)

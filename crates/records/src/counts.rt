@@ -11,7 +11,9 @@ impl Contracts {
     pub fn units(self, size: u16) -> Units
         ensures { λ r. ⌜ r ≡ unitsOf self size ⌝ }
     {
-        Units((self.0 as u64) * (size as u64))
+        let contracts = self.0 as u64;
+        let each = size as u64;
+        Units(contracts * each)
     }
 
     pub fn number(self) -> u32

@@ -25,7 +25,10 @@ loop-again c =
     (search needs, simp length-set (l .inv .1), rw (l .inv .2) (put-more 0 (a .to .now) (a .at) (a .from .now) (l .i) (omega arith) (omega arith)))
 
 returns : tie.Need-returns Inv-loop μ-loop
-returns c = c .before .loop .inv .2 ∙ put-all (c .before .before .args .to .now) (c .before .before .args .at) (c .before .before .args .from .now) (c .before .loop .i) (omega arith)
+returns c =
+    let l = c .before .loop in
+    let a = c .before .before .args in
+    l .inv .2 ∙ put-all (a .to .now) (a .at) (a .from .now) (l .i) (omega arith)
 
 pub copy-to-spec : {M : Type 1} → statement M
 copy-to-spec =

@@ -30,7 +30,10 @@ loop-again c =
     )
 
 returns : tie.Need-returns Inv-loop μ-loop
-returns c = c .before .loop .inv .2 ∙ put-all (c .before .before .args .to .now) (c .before .before .args .at) (zeros (c .before .before .args .n)) (c .before .loop .i) (omega (arith, length-replicate {A = ℕ} (c .before .before .args .n) 0))
+returns c =
+    let l = c .before .loop in
+    let a = c .before .before .args in
+    l .inv .2 ∙ put-all (a .to .now) (a .at) (zeros (a .n)) (l .i) (omega (arith, length-replicate {A = ℕ} (a .n) 0))
 
 pub zero-to-spec : {M : Type 1} → statement M
 zero-to-spec =

@@ -7,17 +7,14 @@ use borrow.Author.Needs.{needs}
 use Rattle.blocks.proofs.checks.sums_agree.Statement.{statement}
 use Rattle.blocks.proofs.checks.sums_agree.Tie as tie
 
-slice-aggregate-sums-of : tie.Need-slice-aggregate-sums-of
-slice-aggregate-sums-of c = sym (length-take-le 508 (c .before .before .args .block .now) (omega arith))
-
-sums-of-requires : tie.Need-sums-of-requires
-sums-of-requires c κs = simp length-take (omega arith)
-
 returns : tie.Need-returns
 unfolding sumsAgree
-returns c = cc
+returns c =
+    let u = c .before .before .before in
+    let s = u .before in
+    rw (c .before .u16-at2 .ensures, u .u16-at .ensures, s .sums-of .ensures .0, s .sums-of .ensures .1)
 
 pub sums-agree-spec : {M : Type 1} → statement M
 sums-agree-spec =
     tie.close
-    (tie.spec slice-aggregate-sums-of sums-of-requires (λ c κs. search needs) (λ c κs. search needs) returns)
+    (tie.spec (λ c. sym (length-take-le 508 (c .before .before .args .block .now) (omega arith))) (λ c κs. simp length-take (omega arith)) (λ c κs. search needs) (λ c κs. search needs) returns)

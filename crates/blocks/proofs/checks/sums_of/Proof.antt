@@ -21,23 +21,20 @@ loop-holds : tie.Need-loop-holds Inv-loop μ-loop
 unfolding byteSum weightedSum
 loop-holds c = search needs
 
-cast-a : tie.Need-cast-a Inv-loop μ-loop
-cast-a c = omega (arith, c .shared-slice-known .given (c .before .before .loop .i))
-
-add-a : tie.Need-add-a Inv-loop μ-loop
-add-a c = omega (arith, c .shared-slice-known .given (c .before .before .loop .i))
-
-add-b : tie.Need-add-b Inv-loop μ-loop
-add-b c = omega (arith, c .shared-slice-known .given (c .before .before .loop .i))
-
 loop-again : tie.Need-loop-again Inv-loop μ-loop
-loop-again c = omega (arith, c .shared-slice-known .given (c .before .before .loop .i), byteSum-more (c .before .before .before .args .s .now) (c .before .before .loop .i) (c .before .loop-test .taken), weightedSum-more (c .before .before .before .args .s .now) (c .before .before .loop .i) (c .before .loop-test .taken))
+loop-again c =
+    let l = c .before .before in
+    let s = l .before .args .s .now in
+    let i = l .loop .i in
+    let h = c .before .loop-test .taken in
+    omega (arith, c .shared-slice-known .given i, byteSum-more s i h, weightedSum-more s i h)
 
 returns : tie.Need-returns Inv-loop μ-loop
 unfolding checkA checkB
 returns c =
-    let whole = take-all (c .before .loop .i) (c .before .before .args .s .now) (c .loop-test .left) in
-    (ap (λ (n : ℕ). n % 65536) (c .before .loop .inv .1 ∙ ap byteSum whole), ap (λ (n : ℕ). n % 65536) (c .before .loop .inv .2 ∙ ap weightedSum whole))
+    let l = c .before .loop in
+    let whole = take-all (l .i) (c .before .before .args .s .now) (c .loop-test .left) in
+    (ap (λ (n : ℕ). n % 65536) (l .inv .1 ∙ ap byteSum whole), ap (λ (n : ℕ). n % 65536) (l .inv .2 ∙ ap weightedSum whole))
 
 pub sums-of-spec : {M : Type 1} → statement M
 sums-of-spec =
@@ -47,9 +44,9 @@ sums-of-spec =
     μ-loop
     loop-holds
     (λ c. search needs)
-    cast-a
-    add-a
-    add-b
+    (λ c. omega (arith, c .shared-slice-known .given (c .before .before .loop .i)))
+    (λ c. omega (arith, c .shared-slice-known .given (c .before .before .loop .i)))
+    (λ c. omega (arith, c .shared-slice-known .given (c .before .before .loop .i)))
     (λ c. search needs)
     (λ c. search needs)
     loop-again

@@ -16,28 +16,13 @@ few c =
     let h = head-is (a .number) (a .blocks) (a .block .now) (sym (c .before .head-fits .ensures) ∙ c .if1 .taken) in
     omega (arith, h .count .1, byte-is (a .block .now) 5)
 
-cast-end : tie.Need-cast-end
-cast-end c = omega (arith, few (c .before))
-
-mul-end : tie.Need-mul-end
-mul-end c = omega (arith, few (c .before))
-
-add-end : tie.Need-add-end
-add-end c = omega (arith, few (c .before))
-
-sub-all-zero : tie.Need-sub-all-zero
-sub-all-zero c = omega (arith, few (c .before))
-
-part-all-zero-start : tie.Need-part-all-zero-start
-part-all-zero-start c = omega (arith, few (c .before))
-
 returns : tie.Need-returns
 unfolding formed zeroIn
 returns c =
     let t = c .before .before .before .before in
     let a = t .before .before .before .args in
     let e : headFits (a .number) (a .blocks) (a .block .now) ≡ true = sym (t .before .head-fits .ensures) ∙ t .if1 .taken in
-    rw (byte-is (a .block .now) 5, e) (cc)
+    rw (byte-is (a .block .now) 5, e, c .tail-fits .ensures, c .before .all-zero .ensures)
 
 returns-2 : tie.Need-returns-2
 unfolding formed
@@ -52,11 +37,11 @@ well-formed-spec =
     (tie.spec
     (λ c κs. search needs)
     (λ c. search needs)
-    cast-end
-    mul-end
-    add-end
-    sub-all-zero
-    part-all-zero-start
+    (λ c. omega (arith, few (c .before)))
+    (λ c. omega (arith, few (c .before)))
+    (λ c. omega (arith, few (c .before)))
+    (λ c. omega (arith, few (c .before)))
+    (λ c. omega (arith, few (c .before)))
     (λ c. search needs)
     (λ c κs. search needs)
     (λ c κs. search needs)

@@ -5,7 +5,7 @@ use mathlib.Core.List.{List}
 use Prim.Native.Nat.{ℕ}
 use lib.ListN.{length}
 use Rattle.blocks.specs.File.{wholeFile}
-use Rattle.blocks.proofs.ReadLaws.{sizes, judge-1, judge-block, scan-sound, judge-field, judge-good}
+use Rattle.blocks.proofs.ReadLaws.{judge-1, judge-block, scan-sound, judge-field, judge-good}
 use borrow.Author.Needs.{needs}
 use Rattle.blocks.proofs.reader.judge.Statement.{statement}
 use Rattle.blocks.proofs.reader.judge.Tie as tie
@@ -16,14 +16,10 @@ file c = now (c .before .before .args .file)
 whole : (c : tie.Then1) → wholeFile (length (file (c .before))) ≡ true
 whole c = sym (c .before .whole-file .ensures) ∙ c .if1 .taken
 
-scan-requires : tie.Need-scan-requires
-scan-requires c κs = whole c
-
 file-fields-fault-requires : tie.Need-file-fields-fault-requires
 file-fields-fault-requires c κs =
     let n = c .before .before .before in
-    let s = scan-sound (file (n .before .before)) (whole (n .before)) _ (sym (n .scan .ensures) ∙ c .before .counts .given .1) in
-    (sizes (file (n .before .before)) s, s .sized)
+    scan-sound (file (n .before .before)) (whole (n .before)) _ (sym (n .scan .ensures) ∙ c .before .counts .given .1) .sized
 
 returns : tie.Need-returns
 returns c =
@@ -52,7 +48,7 @@ judge-spec =
     tie.close
     (tie.spec
     (λ c κs. search needs)
-    scan-requires
+    (λ c κs. whole c)
     (λ c. search needs)
     (λ c. search needs)
     file-fields-fault-requires

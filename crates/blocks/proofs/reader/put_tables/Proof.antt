@@ -4,11 +4,13 @@ use mathlib.Core.List.{List}
 use Prim.Native.Nat.{ℕ}
 use native.Mathlib.Omega.{arith}
 use lib.ListN.{length}
-use Rattle.records.specs.Order.{refuse}
-use Rattle.blocks.specs.File.{tablesIn}
+use Rattle.records.specs.Lists.{All}
+use Rattle.blocks.specs.File.{blocksOf, tablesIn}
 use Rattle.blocks.specs.Reader.{leaves}
-use Rattle.blocks.specs.declared.reader.Reading.the-variants.{Read, Refused}
-use Rattle.blocks.proofs.ReadLaws.{sizes, read-sound, Bytes, read-bytes, read-17-1, read-17-2, read-17-3, read-done}
+use Rattle.blocks.specs.Steps.{Sized}
+use Rattle.blocks.specs.declared.reader.Reading.the-variants.{Read}
+use Rattle.blocks.proofs.SoundFile.{read-sound}
+use Rattle.blocks.proofs.ReadLaws.{Bytes, read-bytes, read-done, short-1, short-2, short-3}
 use borrow.Author.Needs.{needs}
 use Rattle.blocks.proofs.reader.put_tables.Statement.{statement}
 use Rattle.blocks.proofs.reader.put_tables.Tie as tie
@@ -19,25 +21,18 @@ file z = now (z .args .file)
 bytes : (z : tie.Start) → Bytes (file z) (z .args .counts)
 bytes z = read-bytes (file z) (z .args .counts) (z .pre .0) (z .pre .1)
 
+sized : (z : tie.Start) → All Sized (blocksOf (file z))
+sized z = read-sound (file z) (z .pre .0) .sized
+
 abbrev start : tie.After-struct-known3 → tie.Start
 start c = c .before .before .before .before .before .before .before
-
-mul-h : tie.Need-mul-h
-mul-h c = omega (arith, bytes (c .before .before .before .before .before) .holdings .1)
-
-mul-p : tie.Need-mul-p
-mul-p c = omega (arith, bytes (c .before .before .before .before .before .before) .placement .1)
-
-mul-c : tie.Need-mul-c
-mul-c c = omega (arith, bytes (c .before .before .before .before .before .before .before) .claims .1)
 
 returns : tie.Need-returns
 unfolding leaves
 returns c =
-    let k = c .before .before in
-    let z = start k in
-    let n = bytes z .holdings .0 in (
-      c .no-room .ensures ∙ ap (λ (m : ℕ). Refused (refuse 17 1 m)) n ∙ sym (read-17-1 (file z) (length (now (z .args .holdings))) (length (now (z .args .placement))) (length (now (z .args .claims))) (z .pre .0) (omega (arith, n))),
+    let z = start (c .before .before) in
+    let a = z .args in (
+      c .no-room .ensures ∙ sym (short-1 (file z) (length (now (a .holdings))) (length (now (a .placement))) (length (now (a .claims))) (z .pre .0) (a .counts) (bytes z) (c .before .if1 .taken)),
       rw (c .no-room .ensures) (refl, (refl, refl)),
     )
 
@@ -46,9 +41,9 @@ unfolding leaves
 returns-2 c =
     let e1 = c .before .before in
     let z = start (e1 .before) in
-    let h = bytes z .holdings .0 in
-    let n = bytes z .placement .0 in (
-      c .no-room2 .ensures ∙ ap (λ (m : ℕ). Refused (refuse 17 2 m)) n ∙ sym (read-17-2 (file z) (length (now (z .args .holdings))) (length (now (z .args .placement))) (length (now (z .args .claims))) (z .pre .0) (omega (arith, h, e1 .if1 .left)) (omega (arith, n))),
+    let a = z .args in (
+      c .no-room2 .ensures
+          ∙ sym (short-2 (file z) (length (now (a .holdings))) (length (now (a .placement))) (length (now (a .claims))) (z .pre .0) (a .counts) (bytes z) (e1 .if1 .left) (c .before .if2 .taken)),
       rw (c .no-room2 .ensures) (refl, (refl, refl)),
     )
 
@@ -58,33 +53,32 @@ returns-3 c =
     let e2 = c .before .before in
     let e1 = e2 .before in
     let z = start (e1 .before) in
-    let h = bytes z .holdings .0 in
-    let p = bytes z .placement .0 in
-    let n = bytes z .claims .0 in (
-      c .no-room3 .ensures ∙ ap (λ (m : ℕ). Refused (refuse 17 3 m)) n ∙ sym (read-17-3 (file z) (length (now (z .args .holdings))) (length (now (z .args .placement))) (length (now (z .args .claims))) (z .pre .0) (omega (arith, h, e1 .if1 .left)) (omega (arith, p, e2 .if2 .left)) (omega (arith, n))),
+    let a = z .args in (
+      c .no-room3 .ensures
+          ∙ sym (short-3 (file z) (length (now (a .holdings))) (length (now (a .placement))) (length (now (a .claims))) (z .pre .0) (a .counts) (bytes z) (e1 .if1 .left) (e2 .if2 .left) (c .before .if3 .taken)),
       rw (c .no-room3 .ensures) (refl, (refl, refl)),
     )
 
 copy-kind-requires : tie.Need-copy-kind-requires
 unfolding tablesIn
 copy-kind-requires c κs =
-    let e3 = c .before in
-    let z = start (e3 .before .before .before) in
-    (sizes (file z) (read-sound (file z) (z .pre .0)), (read-sound (file z) (z .pre .0) .sized, omega (arith, bytes z .holdings .0, e3 .before .before .if1 .left)))
+    let e1 = c .before .before .before in
+    let z = start (e1 .before) in
+    (sized z, omega (arith, bytes z .holdings .0, e1 .if1 .left))
 
 copy-kind-requires-2 : tie.Need-copy-kind-requires-2
 unfolding tablesIn
 copy-kind-requires-2 c κs =
-    let e3 = c .before .before .before .before .before in
-    let z = start (e3 .before .before .before) in
-    (sizes (file z) (read-sound (file z) (z .pre .0)), (read-sound (file z) (z .pre .0) .sized, omega (arith, bytes z .placement .0, e3 .before .if2 .left)))
+    let e2 = c .before .before .before .before .before .before in
+    let z = start (e2 .before .before) in
+    (sized z, omega (arith, bytes z .placement .0, e2 .if2 .left))
 
 copy-kind-requires-3 : tie.Need-copy-kind-requires-3
 unfolding tablesIn
 copy-kind-requires-3 c κs =
     let e3 = c .before .before .before .before .before .before .before .before .before in
     let z = start (e3 .before .before .before) in
-    (sizes (file z) (read-sound (file z) (z .pre .0)), (read-sound (file z) (z .pre .0) .sized, omega (arith, bytes z .claims .0, e3 .if3 .left)))
+    (sized z, omega (arith, bytes z .claims .0, e3 .if3 .left))
 
 returns-4 : tie.Need-returns-4
 unfolding leaves tablesIn
@@ -96,8 +90,9 @@ returns-4 c =
     let e2 = e3 .before in
     let e1 = e2 .before in
     let z = start (e1 .before) in
+    let a = z .args in
     let b = bytes z in (
-      ap Read (z .pre .1) ∙ sym (read-done (file z) (length (now (z .args .holdings))) (length (now (z .args .placement))) (length (now (z .args .claims))) (z .pre .0)
+      ap Read (z .pre .1) ∙ sym (read-done (file z) (length (now (a .holdings))) (length (now (a .placement))) (length (now (a .claims))) (z .pre .0)
           (omega (arith, b .holdings .0, e1 .if1 .left)) (omega (arith, b .placement .0, e2 .if2 .left)) (omega (arith, b .claims .0, e3 .if3 .left))),
       (g1 .copy-kind .ensures, (g2 .copy-kind2 .ensures, g3 .copy-kind3 .ensures)),
     )
@@ -106,9 +101,9 @@ pub put-tables-spec : {M : Type 1} → statement M
 put-tables-spec =
     tie.close
     (tie.spec
-    mul-h
-    mul-p
-    mul-c
+    (λ c. omega (arith, bytes (c .before .before .before .before .before) .holdings .1))
+    (λ c. omega (arith, bytes (c .before .before .before .before .before .before) .placement .1))
+    (λ c. omega (arith, bytes (start c) .claims .1))
     (λ c κs. search needs)
     returns
     (λ c κs. search needs)

@@ -6,7 +6,7 @@ use native.Mathlib.Omega.{arith}
 use lib.ListN.{length, length-take, length-drop}
 use Rattle.records.specs.Chunks.{chunkAt}
 use Rattle.records.proofs.ChunkLaws.{part-is}
-use Rattle.blocks.specs.Steps.{faultNumber, scanOf}
+use Rattle.blocks.specs.Steps.{blockFault, scanOf}
 use Rattle.blocks.proofs.BlockLaws.{byte-is}
 use Rattle.blocks.proofs.FileLaws.{whole-file}
 use Rattle.blocks.proofs.ScanLaws.{Scanned, scan-start, scan-fault, scan-sized, scan-next, scan-done}
@@ -25,7 +25,7 @@ file t = now (t .before .before .before .before .args .file)
 
 fine : (c : tie.Else1 Inv-loop μ-loop)
     → (let t = c .before .before .before in
-    faultNumber (t .before .loop .seen) (t .before .loop .i) (length (file t) / 512) (chunkAt 512 (file t) (t .before .loop .i)) ≡ 0)
+    blockFault (t .before .loop .seen) (t .before .loop .i) (length (file t) / 512) (chunkAt 512 (file t) (t .before .loop .i)) ≡ 0)
 fine c =
     let t = c .before .before .before in
     sym (rw (part-is 512 (t .before .loop .i) (file t)) at (c .before .block-fault .ensures)) ∙ c .if1 .left

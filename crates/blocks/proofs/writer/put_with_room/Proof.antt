@@ -23,15 +23,6 @@ need : (b : tie.After-block-count3)
     → 512 * (b .before .before .block-count .result + b .before .block-count2 .result + b .block-count3 .result) ≡ 512 * blocksIn (given (start b))
 need b = omega (arith, b .before .before .block-count .ensures, b .before .block-count2 .ensures, b .block-count3 .ensures)
 
-block-count-requires : tie.Need-block-count-requires
-block-count-requires c κs = omega (arith, limits (c .before .before .before .before) .holdings .1)
-
-block-count-requires-2 : tie.Need-block-count-requires-2
-block-count-requires-2 c κs = omega (arith, limits (c .before .before .before .before .before) .placement .1)
-
-block-count-requires-3 : tie.Need-block-count-requires-3
-block-count-requires-3 c κs = omega (arith, limits (c .before .before .before .before .before .before) .claims .1)
-
 mul-need : tie.Need-mul-need
 mul-need c = omega (arith, need c, limits (start c) .holdings .1, limits (start c) .placement .1, limits (start c) .claims .1)
 
@@ -64,10 +55,10 @@ pub put-with-room-spec : {M : Type 1} → statement M
 put-with-room-spec =
     tie.close
     (tie.spec
-    block-count-requires
-    block-count-requires-2
+    (λ c κs. omega (arith, limits (c .before .before .before .before) .holdings .1))
+    (λ c κs. omega (arith, limits (c .before .before .before .before .before) .placement .1))
     (λ c. search needs)
-    block-count-requires-3
+    (λ c κs. omega (arith, limits (c .before .before .before .before .before .before) .claims .1))
     (λ c. search needs)
     mul-need
     returns

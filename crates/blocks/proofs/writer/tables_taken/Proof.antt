@@ -5,7 +5,7 @@ use Rattle.blocks.proofs.writer.tables_taken.Tie as tie
 
 returns : tie.Need-returns
 unfolding takenTables
-returns c = cc
+returns c = rw (c .whole-table3 .ensures, c .before .whole-table2 .ensures, c .before .before .whole-table .ensures)
 
 pub tables-taken-spec : {M : Type 1} → statement M
 tables-taken-spec =

@@ -24,9 +24,6 @@ loop-holds c =
     let a = c .before .before .before .args in
     (c .block-count .ensures, omega arith, refl, put-none (a .out .now) (a .at) (a .records .now))
 
-fill-block-requires : tie.Need-fill-block-requires Inv-loop μ-loop
-fill-block-requires c κs = (simp (length-take, length-drop) (omega arith), simp (length-take, length-drop) (omega arith))
-
 loop-again : tie.Need-loop-again Inv-loop μ-loop
 loop-again c =
     let p = c .before .before .before .before .before in
@@ -67,7 +64,7 @@ write-kind-spec =
     (λ c. omega arith)
     (λ c. omega arith)
     (λ c. omega arith)
-    fill-block-requires
+    (λ c κs. (simp (length-take, length-drop) (omega arith), simp (length-take, length-drop) (omega arith)))
     (λ c. omega arith)
     (λ c. omega arith)
     loop-again

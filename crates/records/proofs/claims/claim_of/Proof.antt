@@ -6,7 +6,7 @@ use Rattle.records.proofs.claims.claim_of.Tie as tie
 
 returns : tie.Need-returns
 unfolding claimOf
-returns c = rw (le-leb _ _ (c .before .before .if1 .taken)) cc
+returns c = rw (le-leb _ _ (c .before .before .if1 .taken), c .before .u16-in .ensures, c .u64-in .ensures)
 
 returns-2 : tie.Need-returns-2
 unfolding claimOf

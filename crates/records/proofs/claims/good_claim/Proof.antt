@@ -10,7 +10,17 @@ returns c = simp (ne-eqb _ _ (c .if1 .taken))
 
 returns-2 : tie.Need-returns-2
 unfolding goodClaim
-returns-2 c = simp (eq-eqb _ _ (c .before .before .before .before .before .before .before .before .if1 .left)) cc
+returns-2 c =
+    let w = c .before .before .before .before .before in
+    rw (
+      c .u64-in2 .ensures,
+      c .before .u64-in .ensures,
+      c .before .before .before .u32-in .ensures,
+      c .before .before .before .before .u16-in .ensures,
+      w .is-within .ensures,
+      w .before .before .claim-of .ensures,
+      eq-eqb _ _ (w .before .before .before .if1 .left),
+    )
 
 pub good-claim-spec : {M : Type 1} → statement M
 good-claim-spec =

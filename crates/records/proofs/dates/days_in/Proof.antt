@@ -15,12 +15,14 @@ returns-2 c = simp (le-leb _ _ (c .before .if1 .left), lt-leb _ _ (c .if2 .taken
 returns-3 : tie.Need-returns-3
 unfolding daysIn
 returns-3 c =
-    simp (le-leb _ _ (c .before .before .before .if1 .left), le-leb _ _ (c .before .before .if2 .left), ← c .before .leap-year .ensures, c .if3 .taken)
+    let m = c .before .before in
+    simp (le-leb _ _ (m .before .if1 .left), le-leb _ _ (m .if2 .left), ← c .before .leap-year .ensures, c .if3 .taken)
 
 returns-4 : tie.Need-returns-4
 unfolding daysIn
 returns-4 c =
-    simp (le-leb _ _ (c .before .before .before .if1 .left), le-leb _ _ (c .before .before .if2 .left), ← c .before .leap-year .ensures, c .if3 .left)
+    let m = c .before .before in
+    simp (le-leb _ _ (m .before .if1 .left), le-leb _ _ (m .if2 .left), ← c .before .leap-year .ensures, c .if3 .left)
 
 pub days-in-spec : {M : Type 1} → statement M
 days-in-spec =

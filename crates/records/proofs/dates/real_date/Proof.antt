@@ -5,7 +5,7 @@ use Rattle.records.proofs.dates.real_date.Tie as tie
 
 returns : tie.Need-returns
 unfolding realDate
-returns c = cc
+returns c = rw (c .is-within2 .ensures, c .before .days-in .ensures, c .before .before .is-within .ensures)
 
 pub real-date-spec : {M : Type 1} → statement M
 real-date-spec =

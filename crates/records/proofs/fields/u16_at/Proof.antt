@@ -9,11 +9,15 @@ use Rattle.records.proofs.fields.u16_at.Statement.{statement}
 use Rattle.records.proofs.fields.u16_at.Tie as tie
 
 returns : tie.Need-returns
-returns c = let a = c .before .before .args in sym (leAt-past (now (a .part)) 2 (a .at) (c .if1 .taken))
+returns c =
+    let a = c .before .before .args in
+    sym (leAt-past (now (a .part)) 2 (a .at) (c .if1 .taken))
 
 returns-2 : tie.Need-returns-2
 unfolding leAt
-returns-2 c = let a = c .before .before .before .before .before .args in omega (arith, leAt-past (now (a .part)) 1 (a .at + 1) (omega arith), c .wide .ensures)
+returns-2 c =
+    let a = c .before .before .before .before .before .args in
+    omega (arith, leAt-past (now (a .part)) 1 (a .at + 1) (omega arith), c .wide .ensures)
 
 pub u16-at-spec : {M : Type 1} → statement M
 u16-at-spec =

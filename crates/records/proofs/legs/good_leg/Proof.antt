@@ -10,7 +10,8 @@ returns c = simp (ne-eqb _ _ (c .if1 .taken))
 
 returns-2 : tie.Need-returns-2
 unfolding goodLeg
-returns-2 c = simp (eq-eqb _ _ (c .before .before .before .if1 .left)) cc
+returns-2 c =
+    rw (c .u64-in .ensures, c .before .in-range .ensures, c .before .before .leg-of .ensures, eq-eqb _ _ (c .before .before .before .if1 .left))
 
 pub good-leg-spec : {M : Type 1} → statement M
 good-leg-spec =

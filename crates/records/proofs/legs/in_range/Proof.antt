@@ -5,7 +5,22 @@ use Rattle.records.proofs.legs.in_range.Tie as tie
 
 returns : tie.Need-returns
 unfolding inRange
-returns c = cc
+returns c =
+    let w = c .before .before .before .before .before in
+    let v = w .before .before .before .before .before .before in
+    rw (
+      c .is-within9 .ensures,
+      c .before .number .ensures,
+      c .before .before .real-date .ensures,
+      c .before .before .before .is-within8 .ensures,
+      c .before .before .before .before .is-within7 .ensures,
+      w .is-within6 .ensures,
+      w .before .before .is-within5 .ensures,
+      w .before .before .before .before .is-within4 .ensures,
+      v .is-within3 .ensures,
+      v .before .before .is-within2 .ensures,
+      v .before .before .before .before .is-within .ensures,
+    )
 
 pub in-range-spec : {M : Type 1} → statement M
 in-range-spec =

@@ -7,11 +7,15 @@ use Rattle.records.proofs.tables.check_table.Tie as tie
 
 returns : tie.Need-returns
 unfolding countedOf tableChecks firstOf
-returns c = rw (sym (c .before .before .before .before .whole-table .ensures) ∙ c .before .before .before .if1 .taken, sym (c .before .before .field-fault .ensures) ∙ c .enum-told .given .1)
+returns c =
+    let f = c .before .before in
+    rw (sym (f .before .before .whole-table .ensures) ∙ f .before .if1 .taken, sym (f .field-fault .ensures) ∙ c .enum-told .given .1)
 
 returns-2 : tie.Need-returns-2
 unfolding countedOf tableChecks firstOf
-returns-2 c = rw (sym (c .before .before .before .before .before .whole-table .ensures) ∙ c .before .before .before .before .if1 .taken, sym (c .before .before .before .field-fault .ensures) ∙ c .before .refusal .given .1)
+returns-2 c =
+    let f = c .before .before .before in
+    rw (sym (f .before .before .whole-table .ensures) ∙ f .before .if1 .taken, sym (f .field-fault .ensures) ∙ c .before .refusal .given .1)
 
 returns-3 : tie.Need-returns-3
 unfolding countedOf tableChecks firstOf
