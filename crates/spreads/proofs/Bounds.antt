@@ -1,16 +1,19 @@
 -- How much legs within their ranges can be worth at a price below 100,000,000, and how much a group can lose.
-use Prim.Native.Nat.{ℕ, _-_, _*_, _≤_, _<_}
+use Prim.Native.Nat.{ℕ, zero, suc, _-_, _*_, _/_, _≤_, _<_}
 use mathlib.Core.Bool.{Bool, true, false, cond}
 use mathlib.Core.List.{List, [], _∷_}
 use native.Mathlib.Nat.{mul-le-mul}
+use native.Mathlib.Numerals.{add-one}
 use native.Mathlib.Omega.{arith}
 use lib.Dec.{eqb, ltb}
 use lib.ListN.{length}
 use Rattle.records.specs.Lists.{only, most, All}
-use Rattle.records.specs.Legs.{isLong, isShort, isCall, isPut, units}
-use Rattle.records.specs.Tables.{legsOf}
+use Rattle.records.specs.Chunks.{chunkAt}
+use Rattle.records.specs.Legs.{isLong, isShort, isCall, isPut, units, legOf}
+use Rattle.records.specs.Tables.{legsOf, legsFrom}
 use Rattle.records.specs.declared.legs.Leg.{Leg}
 use Rattle.records.specs.declared.tables.Kind.the-variants.{Placement}
+use Rattle.records.proofs.ChunkLaws.{legs-all, legs-step}
 use Rattle.records.proofs.ListLaws.{all-map, all-keep, length-keep, sum-bound}
 use Rattle.records.proofs.TableLaws.{Ranges, units-small, placement-ranges, length-legs, whole}
 use Rattle.spreads.specs.Prices.{intrinsic, value, longAt, shortAt, at, lossAt}
@@ -109,6 +112,13 @@ module _ (xs : List ℕ) (p : Placed xs) where
 
   pub table-ranges : All (Ranges 32) (legsOf xs)
   table-ranges = placement-ranges xs (p .fields)
+
+  from-ranges : (i : ℕ) → i ≤ length xs / 32 → All (Ranges 32) (legsFrom xs i)
+  from-ranges zero h = rw (legs-all xs) table-ranges
+  from-ranges (suc i) h = rw add-one at ((rw (legs-step xs i (omega arith)) at (from-ranges i (omega arith))) .1)
+
+  pub leg-ranges : (i : ℕ) → i < length xs / 32 → Ranges 32 (legOf (chunkAt 32 xs i))
+  leg-ranges i h = (rw (legs-step xs i h) at (from-ranges i (omega arith))) .0
 
   module _ (g : ℕ) where
     pub group-ranges : All (Ranges 32) (groupOf g (legsOf xs))

@@ -1,4 +1,4 @@
-pub mod Rest
+pub mod Folds
 pub mod Bounds
 pub mod StrikeSums
 pub mod Front

@@ -1,8 +1,8 @@
 -- What the steps of the calls compute, for the contracts of functions that are not public.
 use mathlib.Core.Path.{_≡_}
 use mathlib.Core.Bool.{Bool, true, _&&_, cond}
-use mathlib.Core.List.{List}
-use Prim.Native.Nat.{ℕ, _+_, _*_}
+use mathlib.Core.List.{List, foldl}
+use Prim.Native.Nat.{ℕ, _+_, _*_, min}
 use lib.Dec.{eqb, ltb}
 use lib.ListN.{length}
 use Rattle.records.specs.Lists.{only}
@@ -13,7 +13,7 @@ use Rattle.records.specs.declared.legs.Leg.{Leg}
 use Rattle.records.specs.declared.refusals.Fault.{Fault}
 use Rattle.records.specs.declared.refusals.Fault.the-variants.{Nothing, Is}
 use Rattle.records.specs.declared.tables.Kind.the-variants.{Placement}
-use Rattle.spreads.specs.Prices.{intrinsic, longAt, shortAt, at}
+use Rattle.spreads.specs.Prices.{intrinsic}
 use Rattle.spreads.specs.Strikes.{strikesOf}
 use Rattle.spreads.specs.Calls.{listChecks, listedAnswer}
 use Rattle.spreads.specs.declared.facts.Facts.{Facts}
@@ -53,8 +53,28 @@ withWorth price w l =
       short = w .short + only (isShort l) (units l * intrinsic 1 price l);
     }
 
+abbrev pub noWorth : Worth
+noWorth = record { long = 0; short = 0 }
+
 unfoldable pub worthAt : ℕ → List Leg → Worth
-worthAt price legs = record { long = longAt 1 (at price) legs; short = shortAt 1 (at price) legs }
+worthAt price legs = foldl (withWorth price) noWorth legs
+
+-- ---- how a walk finds the next strike
+
+-- more than any strike
+abbrev pub top : ℕ
+top = 100000000
+
+-- a strike where it is above x, else more than any
+abbrev pub aboveOf : ℕ → ℕ → ℕ
+aboveOf x strike = cond (ltb x strike) strike top
+
+abbrev pub withStrike : ℕ → ℕ → Leg → ℕ
+withStrike x least l = min least (aboveOf x (l .strike))
+
+-- the least strike above x, or `top`
+unfoldable pub above : ℕ → List Leg → ℕ
+above x legs = foldl (withStrike x) top legs
 
 -- ---- the worksheet of a group that is a spread
 

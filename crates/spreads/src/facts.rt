@@ -3,6 +3,7 @@ ghost use mathlib.Core.Path.{_≡_};
 ghost use Rattle.records.specs.Tables.{legsOf};
 ghost use Rattle.spreads.specs.Spreads.{groupOf};
 ghost use Rattle.spreads.specs.Gathered.{noFacts, withFirsts, withUnits, withExpiry, withLeg, gathered};
+use crate::legs::leg_at;
 use records::Leg;
 use records::RECORD_BYTES;
 use records::Units;
@@ -147,9 +148,7 @@ pub(crate) fn gather(placement: &[u8], g: usize) -> Facts
     let mut facts = Facts::none();
     let mut i: usize = 0;
     while i < n {
-        let at = RECORD_BYTES * i;
-        let end = at + RECORD_BYTES;
-        let leg = records::leg_of(&placement[at..end]);
+        let leg = leg_at(placement, i);
         if leg.group as usize == g {
             facts = facts.with_leg(leg);
         }

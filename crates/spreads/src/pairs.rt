@@ -3,6 +3,7 @@ ghost use mathlib.Core.Path.{_≡_};
 ghost use Prim.Native.Nat.{_/_};
 ghost use lib.ListN.{length};
 ghost use Rattle.spreads.specs.Search.{clash, firstPair, isFound};
+use crate::legs::leg_at;
 use records::Leg;
 use records::RECORD_BYTES;
 
@@ -31,18 +32,13 @@ fn first_doubled(placement: &[u8], g: usize) -> Pair
         if n <= j {
             break 'pairs Pair::Nothing;
         }
-        let at = RECORD_BYTES * j;
-        let end = at + RECORD_BYTES;
-        let later = records::leg_of(&placement[at..end]);
+        let later = leg_at(placement, j);
         let mut i: usize = 0;
         if later.group as usize != g {
             i = j;
         }
         while i < j {
-            let from = RECORD_BYTES * i;
-            let to = from + RECORD_BYTES;
-            let earlier = records::leg_of(&placement[from..to]);
-            if is_clash(g, later, earlier) {
+            if is_clash(g, later, leg_at(placement, i)) {
                 break 'pairs Pair::At(j, i);
             }
             i += 1;

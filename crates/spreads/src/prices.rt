@@ -7,6 +7,7 @@ ghost use Rattle.records.specs.Tables.{legsOf};
 ghost use Rattle.spreads.specs.Prices.{intrinsic};
 ghost use Rattle.spreads.specs.Spreads.{groupOf};
 ghost use Rattle.spreads.specs.Steps.{Placed, withWorth, worthAt};
+use crate::legs::leg_at;
 use records::Leg;
 use records::RECORD_BYTES;
 
@@ -78,9 +79,7 @@ pub(crate) fn worth_at(placement: &[u8], g: usize, price: u32) -> Worth
     let mut worth = Worth { long: 0, short: 0 };
     let mut i: usize = 0;
     while i < n {
-        let at = RECORD_BYTES * i;
-        let end = at + RECORD_BYTES;
-        let leg = records::leg_of(&placement[at..end]);
+        let leg = leg_at(placement, i);
         if leg.group as usize == g {
             worth = worth.with_leg(leg, price);
         }
