@@ -7,7 +7,6 @@ pub mod RuleLaws
 pub mod Nets
 pub mod Merge
 pub mod Bench
-pub mod RuleFacts
 pub mod PairLaws
 pub mod FaultLaws
 pub mod Signed

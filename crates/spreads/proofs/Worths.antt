@@ -1,12 +1,10 @@
--- What legs are worth at a price, leg by leg, and the loop that adds up both sides of a group.
+-- What a group is worth at a price: the loop that adds up both sides, and what they say of the net and the loss.
 use Prim.Native.Nat.{ℕ, _+_, _-_, _*_, _/_, _≤_, _<_, _^_}
 use mathlib.Core.Path.{_≡_, refl, ap}
 use mathlib.Core.List.{List, [], _∷_, foldl}
-use native.Mathlib.Nat.{one-mul, add-zero}
 use native.Mathlib.Omega.{arith}
 use lib.IntN.{pos, _-ℤ_}
 use lib.ListN.{length}
-use borrow.Author.Tests.{ne-eqb}
 use Rattle.records.specs.Lists.{sum, All}
 use Rattle.records.specs.Chunks.{chunkAt}
 use Rattle.records.specs.Legs.{units, legOf}
@@ -19,36 +17,6 @@ use Rattle.spreads.specs.Steps.{Placed, top, withWorth, noWorth, worthAt
 use Rattle.spreads.specs.declared.prices.Worth.{Worth}
 use Rattle.spreads.proofs.Bounds.{group-ranges, group-few, leg-ranges, sides-small, worth-small}
 use Rattle.spreads.proofs.Folds.{rest, Folding}
-
--- ---- one unit of a leg
-
-module _ (k : ℕ) (l : Leg) where
-  pub of-call : l .right ≡ 1 → intrinsic 1 k l ≡ k - l .strike
-  unfolding intrinsic
-  of-call e = simp (e, one-mul) (omega arith)
-
-  pub of-put : l .right ≡ 2 → intrinsic 1 k l ≡ l .strike - k
-  unfolding intrinsic
-  of-put e = simp (e, one-mul) (omega arith)
-
-  pub of-neither : (l .right ≡ 1 → ⊥) → (l .right ≡ 2 → ⊥) → intrinsic 1 k l ≡ 0
-  unfolding intrinsic
-  of-neither a b = rw (ne-eqb (l .right) 1 a, ne-eqb (l .right) 2 b)
-
--- ---- one leg more
-
-module _ (k : ℕ) (w : Worth) (l : Leg) (x : ℕ) (e : x ≡ units l * intrinsic 1 k l) where
-  pub long-leg : l .side ≡ 1 → _≡_ {A = Worth} (record { long = w .long + x; short = w .short }) (withWorth k w l)
-  unfolding withWorth
-  long-leg s = rw (e, s, add-zero)
-
-  pub short-leg : l .side ≡ 2 → _≡_ {A = Worth} (record { long = w .long; short = w .short + x }) (withWorth k w l)
-  unfolding withWorth
-  short-leg s = rw (e, s, add-zero)
-
-  pub no-leg : (l .side ≡ 1 → ⊥) → (l .side ≡ 2 → ⊥) → w ≡ withWorth k w l
-  unfolding withWorth
-  no-leg a b = simp (ne-eqb (l .side) 1 a, ne-eqb (l .side) 2 b, add-zero)
 
 -- ---- the loop
 

@@ -1,10 +1,12 @@
 use mathlib.Core.Path.{_≡_}
 use Prim.Native.Nat.{_*_}
+use native.Mathlib.Nat.{add-zero}
 use native.Mathlib.Omega.{arith}
+use borrow.Author.Needs.{needs}
+use borrow.Author.Tests.{ne-eqb}
 use Rattle.records.specs.Legs.{units}
 use Rattle.spreads.specs.Prices.{intrinsic}
-use Rattle.spreads.proofs.Worths.{long-leg, short-leg, no-leg}
-use borrow.Author.Needs.{needs}
+use Rattle.spreads.specs.Steps.{withWorth}
 use Rattle.spreads.proofs.prices.Worth.with_leg.Statement.{statement}
 use Rattle.spreads.proofs.prices.Worth.with_leg.Tie as tie
 
@@ -20,25 +22,19 @@ add-self : tie.Need-add-self
 add-self c = rw (mills (c .before .before .before)) (omega arith)
 
 returns : tie.Need-returns
-returns c =
-    let t = c .before .before .before in
-    let a = t .before .before .before .args in
-    long-leg (a .price) (a .self) (a .leg) _ (mills t) (c .before .if1 .taken)
+unfolding withWorth
+returns c = rw (mills (c .before .before .before), c .before .if1 .taken, add-zero)
 
 add-self-2 : tie.Need-add-self-2
 add-self-2 c = rw (mills (c .before .before .before .before .before)) (omega arith)
 
 returns-2 : tie.Need-returns-2
-returns-2 c =
-    let t = c .before .before .before .before .before in
-    let a = t .before .before .before .args in
-    short-leg (a .price) (a .self) (a .leg) _ (mills t) (c .before .if2 .taken)
+unfolding withWorth
+returns-2 c = rw (mills (c .before .before .before .before .before), c .before .if2 .taken, add-zero)
 
 returns-3 : tie.Need-returns-3
-returns-3 c =
-    let t = c .before .before .before .before in
-    let a = t .before .before .before .args in
-    no-leg (a .price) (a .self) (a .leg) _ (mills t) (c .before .before .if1 .left) (c .if2 .left)
+unfolding withWorth
+returns-3 c = simp (ne-eqb _ _ (c .before .before .if1 .left), ne-eqb _ _ (c .if2 .left), add-zero)
 
 pub with-leg-spec : {M : Type 1} → statement M
 with-leg-spec =
