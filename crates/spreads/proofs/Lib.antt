@@ -8,6 +8,7 @@ pub mod Nets
 pub mod Merge
 pub mod Bench
 pub mod PairLaws
+pub mod GatheredLaws
 pub mod FaultLaws
 pub mod Signed
 pub mod Worths
