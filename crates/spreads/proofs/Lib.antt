@@ -7,6 +7,7 @@ pub mod RuleLaws
 pub mod Nets
 pub mod Merge
 pub mod Bench
+pub mod SearchLaws
 pub mod PairLaws
 pub mod GatheredLaws
 pub mod FaultLaws

@@ -3,6 +3,7 @@ ghost use mathlib.Core.Path.{_≡_};
 ghost use Prim.Native.Nat.{_/_};
 ghost use lib.ListN.{length};
 ghost use Rattle.spreads.specs.Search.{clash, firstPair, isFound};
+ghost use Rattle.spreads.specs.Spreads.{doubled};
 use crate::legs::leg_at;
 use records::Leg;
 use records::RECORD_BYTES;
@@ -13,13 +14,20 @@ pub enum Pair {
     Nothing,
 }
 
-// Whether two legs, of which the first is known to be of group g, are both of it, of one series and of two sides.
-fn is_clash(g: usize, a: Leg, b: Leg) -> bool
-    ensures { λ r. ⌜ r ≡ clash g a b ⌝ }
+// Whether one series is long in a and short in b.
+fn long_and_short(a: Leg, b: Leg) -> bool
+    ensures { λ r. ⌜ r ≡ doubled a b ⌝ }
 {
     let same = (a.right == b.right) & (a.strike == b.strike) & (a.expiry == b.expiry);
-    let sides = ((a.side == 1) & (b.side == 2)) | ((b.side == 1) & (a.side == 2));
-    (b.group as usize == g) & (same & sides)
+    (a.side == 1) & (b.side == 2) & same
+}
+
+// Whether a leg of group g is of one series with an earlier leg of it, on the other side.
+fn is_clash(g: usize, later: Leg, earlier: Leg) -> bool
+    ensures { λ r. ⌜ r ≡ clash g later earlier ⌝ }
+{
+    (earlier.group as usize == g)
+        & (long_and_short(earlier, later) | long_and_short(later, earlier))
 }
 
 // The later leg is taken in the outer loop and the earlier ones in the inner loop.

@@ -7,7 +7,7 @@ use native.Mathlib.Omega.{arith}
 use borrow.Author.Needs.{needs}
 use lib.ListN.{length}
 use Rattle.spreads.specs.Search.{legsBetween, pairWith, firstPair}
-use Rattle.spreads.proofs.PairLaws.{with-next, with-end, pair-end, pair-in, pair-out}
+use Rattle.spreads.proofs.SearchLaws.{with-next, with-end, pair-end, pair-in, pair-out}
 use Rattle.spreads.proofs.pairs.first_doubled.Statement.{statement}
 use Rattle.spreads.proofs.pairs.first_doubled.Tie as tie
 
