@@ -1,5 +1,6 @@
 pub mod Folds
 pub mod Bounds
+pub mod Placing
 pub mod StrikeSums
 pub mod Front
 pub mod Cover
@@ -15,5 +16,7 @@ pub mod Signed
 pub mod Worths
 pub mod Ascending
 pub mod Walks
+pub mod Written
+pub mod WalkResults
 pub mod Answers
 pub mod Unique

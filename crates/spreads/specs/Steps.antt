@@ -1,14 +1,14 @@
 -- What the steps of the calls compute, for the contracts of functions that are not public.
 use mathlib.Core.Path.{_≡_}
-use mathlib.Core.Bool.{Bool, true, _&&_, cond}
-use mathlib.Core.List.{List, foldl}
-use Prim.Native.Nat.{ℕ, _+_, _*_, min}
+use mathlib.Core.Bool.{Bool, _&&_, cond}
+use mathlib.Core.List.{List, [], _∷_, foldl}
+use Prim.Native.Nat.{ℕ, _+_, _*_}
 use lib.Dec.{eqb, ltb}
 use lib.ListN.{length}
 use Rattle.records.specs.Lists.{only}
 use Rattle.records.specs.Legs.{isLong, isShort, units}
 use Rattle.records.specs.Order.{firstOf, refuse}
-use Rattle.records.specs.Tables.{wholeTable, fieldChecks}
+use Rattle.records.specs.Tables.{tableChecks}
 use Rattle.records.specs.declared.legs.Leg.{Leg}
 use Rattle.records.specs.declared.refusals.Fault.{Fault}
 use Rattle.records.specs.declared.refusals.Fault.the-variants.{Nothing, Is}
@@ -21,9 +21,8 @@ use Rattle.spreads.specs.declared.prices.Worth.{Worth}
 use Rattle.spreads.specs.declared.calls.Listed.{Listed}
 
 -- a placement table that has passed 1 and 4
-pub record Placed (xs : List ℕ) : Type 0 where
-  pub whole : wholeTable Placement (length xs) ≡ true
-  pub fields : firstOf (fieldChecks Placement xs) ≡ Nothing
+abbrev pub Placed : List ℕ → Type 0
+Placed xs = firstOf (tableChecks Placement xs) ≡ Nothing
 
 -- ---- the rule's number from the facts: 0 where none is broken
 
@@ -69,12 +68,10 @@ top = 100000000
 abbrev pub aboveOf : ℕ → ℕ → ℕ
 aboveOf x strike = cond (ltb x strike) strike top
 
-abbrev pub withStrike : ℕ → ℕ → Leg → ℕ
-withStrike x least l = min least (aboveOf x (l .strike))
-
--- the least strike above x, or `top`
-unfoldable pub above : ℕ → List Leg → ℕ
-above x legs = foldl (withStrike x) top legs
+-- the first strike of an ascending list above x, or `top`
+unfoldable pub firstAbove : ℕ → List ℕ → ℕ
+firstAbove x [] = top
+firstAbove x (y ∷ ys) = cond (ltb x y) y (firstAbove x ys)
 
 -- ---- the worksheet of a group that is a spread
 
