@@ -7,7 +7,7 @@ use native.Mathlib.Numerals.{add-one}
 use native.Mathlib.Omega.{arith}
 use lib.Dec.{eqb}
 use lib.ListN.{length}
-use Rattle.records.specs.Lists.{only, most, All}
+use Rattle.records.specs.Lists.{only, sum, most, All}
 use Rattle.records.specs.Chunks.{chunkAt}
 use Rattle.records.specs.Legs.{isLong, isShort, isCall, isPut, units, legOf}
 use Rattle.records.specs.Tables.{tableChecks, fieldChecks, legsOf, legsFrom}
@@ -29,7 +29,7 @@ pub only-less : (b : Bool) (x : ℕ) → only b x ≤ x
 only-less true x = omega arith
 only-less false x = omega arith
 
-pub intrinsic-small : (k : ℕ) (l : Leg) → Ranges 32 l → k < 100000000 → intrinsic 1 k l ≤ 100000000
+intrinsic-small : (k : ℕ) (l : Leg) → Ranges 32 l → k < 100000000 → intrinsic 1 k l ≤ 100000000
 unfolding intrinsic
 intrinsic-small k l r h =
     omega (arith, only-less (isCall l) (k - 1 * l .strike), only-less (isPut l) (1 * l .strike - k), r .strike)
@@ -38,35 +38,26 @@ intrinsic-small k l r h =
 pub worth-small : (k : ℕ) (l : Leg) → Ranges 32 l → k < 100000000 → units l * intrinsic 1 k l ≤ 10000000000000000
 worth-small k l r h = mul-le-mul (units-small 32 l r .1) (intrinsic-small k l r h)
 
-pub value-small : (k : ℕ) (l : Leg) → Ranges 32 l → k < 100000000 → value 1 (at k) l ≤ 10000000000000000
-unfolding value
-value-small k l r h = worth-small k l r h
-
 -- ---- many legs
 
 module _ (k : ℕ) (legs : List Leg) (r : All (Ranges 32) legs) (h : k < 100000000) where
-  pub long-bound : longAt 1 (at k) legs ≤ 10000000000000000 * length legs
-  unfolding longAt
-  long-bound =
-      sum-bound (λ l. only (isLong l) (value 1 (at k) l)) 10000000000000000 legs
-      (all-map legs (λ l q. omega (arith, value-small k l q h, only-less (isLong l) (value 1 (at k) l))) r)
+  side-bound : (side : Leg → Bool) → sum (λ l. only (side l) (value 1 (at k) l)) legs ≤ 10000000000000000 * length legs
+  unfolding value
+  side-bound side =
+      sum-bound _ 10000000000000000 legs
+      (all-map legs (λ l q. omega (arith, worth-small k l q h, only-less (side l) (units l * intrinsic 1 k l))) r)
 
-  pub short-bound : shortAt 1 (at k) legs ≤ 10000000000000000 * length legs
-  unfolding shortAt
-  short-bound =
-      sum-bound (λ l. only (isShort l) (value 1 (at k) l)) 10000000000000000 legs
-      (all-map legs (λ l q. omega (arith, value-small k l q h, only-less (isShort l) (value 1 (at k) l))) r)
-
-  pub loss-bound : lossAt legs k ≤ 10000000000000000 * length legs
-  unfolding lossAt
-  loss-bound = omega (arith, short-bound)
+  loss-bound : lossAt legs k ≤ 10000000000000000 * length legs
+  unfolding lossAt shortAt
+  loss-bound = omega (arith, side-bound isShort)
 
   pub sides-small : length legs ≤ 256 → (longAt 1 (at k) legs ≤ 2560000000000000000) × (shortAt 1 (at k) legs ≤ 2560000000000000000)
-  sides-small n = (omega (arith, long-bound), omega (arith, short-bound))
+  unfolding longAt shortAt
+  sides-small n = (omega (arith, side-bound isLong), omega (arith, side-bound isShort))
 
 -- ---- the margin
 
-pub most-bound : {A : Type 0} (f : A → ℕ) (b : ℕ) (l : List A) → All (λ x. f x ≤ b) l → most f l ≤ b
+most-bound : {A : Type 0} (f : A → ℕ) (b : ℕ) (l : List A) → All (λ x. f x ≤ b) l → most f l ≤ b
 unfolding most
 most-bound f b [] a = omega arith
 most-bound f b (x ∷ xs) a = omega (arith, a .0, most-bound f b xs (a .1))

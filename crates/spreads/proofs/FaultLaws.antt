@@ -1,17 +1,16 @@
 -- The first rule that the facts of a group break is the first refusal.
 use Prim.Native.Nat.{ℕ, _/_}
 use mathlib.Core.Path.{_≡_, refl, _∙_}
-use mathlib.Core.Bool.{Bool, true, false, not, _&&_, cond}
+use mathlib.Core.Bool.{Bool, true, false, not, cond}
 use mathlib.Core.List.{List, [], _∷_}
-use lib.Dec.{leb, eqb, ltb}
+use lib.Dec.{leb, ltb}
 use lib.ListN.{length}
 use borrow.Author.Tests.{leb-true, leb-false, lt-ltb, le-ltb}
 use Rattle.records.specs.Dates.{within}
-use Rattle.records.specs.Legs.{isLong, isShort, isCall, isPut}
 use Rattle.records.specs.Order.{ask, firstOf}
 use Rattle.records.specs.Tables.{legsOf}
 use Rattle.records.specs.declared.legs.Leg.{Leg}
-use Rattle.spreads.specs.Spreads.{groupOf, oneOf, noneDoubled, unitsIn, latestShort, earliestLong, spreadChecks}
+use Rattle.spreads.specs.Spreads.{groupOf, noneDoubled, latestShort, earliestLong, spreadChecks}
 use Rattle.spreads.specs.Gathered.{gathered}
 use Rattle.spreads.specs.Search.{firstPair, isFound}
 use Rattle.spreads.specs.Steps.{Placed, faultNumber, numberFault}

@@ -28,7 +28,7 @@ module _ (g : ℕ) (xs : List ℕ) (i : ℕ) where
     legs-next : legsFrom xs i ≡ l ∷ legsFrom xs (i + 1)
     legs-next = rw e (legs-step xs i h)
 
-    pub rest-in : l .group ≡ g → rest g xs i ≡ l ∷ rest g xs (i + 1)
+    rest-in : l .group ≡ g → rest g xs i ≡ l ∷ rest g xs (i + 1)
     unfolding groupOf
     rest-in q = keep-in (λ k. eqb (k .group) g) l (legsFrom xs i) (legsFrom xs (i + 1)) legs-next (eq-eqb (l .group) g q)
 

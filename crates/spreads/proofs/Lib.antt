@@ -3,6 +3,7 @@ pub mod Bounds
 pub mod Placing
 pub mod StrikeSums
 pub mod Front
+pub mod Payoffs
 pub mod Cover
 pub mod RuleLaws
 pub mod Nets

@@ -17,7 +17,7 @@ mag-sub a b {H} ha hb = at (ltb a b)
     at true = omega arith
     at false = omega arith
 
-pub mag-minus : (a b : ℕ) {H : ℕ} → a < H → b < H → mag (pos a -ℤ pos b) < H
+mag-minus : (a b : ℕ) {H : ℕ} → a < H → b < H → mag (pos a -ℤ pos b) < H
 mag-minus a zero ha hb = omega arith
 mag-minus a (suc b) ha hb = mag-sub a (suc b) ha hb
 
