@@ -42,6 +42,9 @@ withUnits s ofThis side u =
       short = cond (ofThis && eqb side 2) (plusUnits (s .short) u) (s .short);
     }
 
+abbrev pub isBalanced : Sides → Bool
+isBalanced s = eqb (s .long .0) (s .short .0)
+
 -- of longs the earliest, of shorts the latest
 unfoldable pub withExpiry : Lives → ℕ → ℕ → Lives
 withExpiry s side expiry =

@@ -15,6 +15,7 @@ use Rattle.records.specs.declared.refusals.Fault.the-variants.{Nothing, Is}
 use Rattle.records.specs.declared.tables.Kind.the-variants.{Placement}
 use Rattle.spreads.specs.Prices.{intrinsic}
 use Rattle.spreads.specs.Strikes.{strikesOf}
+use Rattle.spreads.specs.Gathered.{isBalanced}
 use Rattle.spreads.specs.Calls.{listChecks, listedAnswer}
 use Rattle.spreads.specs.declared.facts.Facts.{Facts}
 use Rattle.spreads.specs.declared.prices.Worth.{Worth}
@@ -33,8 +34,8 @@ faultNumber inReach f doubled =
     (cond (f .firsts .styles) 8
     (cond (f .firsts .markets) 9
     (cond doubled 10
-    (cond (eqb (f .calls .long .0) (f .calls .short .0))
-    (cond (eqb (f .puts .long .0) (f .puts .short .0))
+    (cond (isBalanced (f .calls))
+    (cond (isBalanced (f .puts))
     (cond (ltb (f .lives .earliest) (f .lives .latest)) 13 0)
     12)
     11)))))

@@ -2,7 +2,7 @@
 ghost use mathlib.Core.Path.{_≡_};
 ghost use Rattle.records.specs.Tables.{legsOf};
 ghost use Rattle.spreads.specs.Spreads.{groupOf};
-ghost use Rattle.spreads.specs.Gathered.{noFacts, withFirsts, withUnits, withExpiry, withLeg, gathered};
+ghost use Rattle.spreads.specs.Gathered.{noFacts, withFirsts, withUnits, isBalanced, withExpiry, withLeg, gathered};
 use crate::legs::leg_at;
 use records::Leg;
 use records::RECORD_BYTES;
@@ -74,6 +74,13 @@ impl Sides {
             self.short = short;
         }
         self
+    }
+
+    // As many units long as short.
+    pub(crate) fn balanced(self) -> bool
+        ensures { λ r. ⌜ r ≡ isBalanced self ⌝ }
+    {
+        self.long.number() == self.short.number()
     }
 }
 
