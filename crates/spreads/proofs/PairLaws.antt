@@ -16,9 +16,9 @@ use Rattle.records.specs.Tables.{legsOf}
 use Rattle.records.specs.declared.legs.Leg.{Leg}
 use Rattle.records.proofs.ChunkLaws.{chunks-all, chunks-none}
 use Rattle.spreads.specs.Spreads.{groupOf, sameSeries, doubled, noneDoubled}
-use Rattle.spreads.specs.Search.{clash, legsBetween, pairWith, firstPair, isFound}
+use Rattle.spreads.specs.Search.{clash, legsBetween, pairWith, firstPair}
 use Rattle.spreads.specs.declared.pairs.Pair.{Pair}
-use Rattle.spreads.specs.declared.pairs.Pair.the-variants.{At}
+use Rattle.spreads.specs.declared.pairs.Pair.the-variants.{At, Nothing}
 
 -- ---- tests of all elements
 
@@ -93,6 +93,10 @@ module _ (g : ℕ) (x : Leg) (legs : List Leg) where
   more-out p = rw (keep-append _ legs (x ∷ []), p, append-nil)
 
 -- ---- the whole search
+
+abbrev pub isFound : Pair → Bool
+isFound (At j i) = true
+isFound Nothing = false
 
 chunks-more : (size n : ℕ) (xs : List ℕ) → chunks size (n + 1) xs ≡ chunks size n xs ++ chunkAt size xs n ∷ []
 unfolding chunks

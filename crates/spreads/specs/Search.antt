@@ -1,6 +1,6 @@
 -- How the search for a doubled series goes: the later leg by its place, and with it the earlier ones from the first on.
 use Prim.Native.Nat.{ℕ, zero, suc, _+_}
-use mathlib.Core.Bool.{Bool, true, false, _&&_, _||_, cond}
+use mathlib.Core.Bool.{Bool, _&&_, _||_, cond}
 use mathlib.Core.List.{List, [], _∷_, map}
 use lib.Dec.{eqb}
 use Rattle.records.specs.Chunks.{chunkAt, chunksFrom}
@@ -30,7 +30,3 @@ firstPair g xs j (suc m) =
     cond (eqb (legOf (chunkAt 32 xs j) .group) g)
     (pairWith g (legOf (chunkAt 32 xs j)) j 0 (legsBetween xs 0 j) (firstPair g xs (j + 1) m))
     (firstPair g xs (j + 1) m)
-
-abbrev pub isFound : Pair → Bool
-isFound (At j i) = true
-isFound Nothing = false

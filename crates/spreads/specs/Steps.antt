@@ -1,6 +1,6 @@
 -- What the steps of the calls compute, for the contracts of functions that are not public.
 use mathlib.Core.Path.{_≡_}
-use mathlib.Core.Bool.{Bool, _&&_, cond}
+use mathlib.Core.Bool.{Bool, not, _&&_, cond}
 use mathlib.Core.List.{List, [], _∷_, foldl}
 use Prim.Native.Nat.{ℕ, _+_, _*_}
 use lib.Dec.{eqb, ltb}
@@ -29,17 +29,14 @@ Placed xs = firstOf (tableChecks Placement xs) ≡ Nothing
 
 unfoldable pub faultNumber : Bool → Facts → Bool → ℕ
 faultNumber inReach f doubled =
-    cond (inReach && f .firsts .some)
+    cond (not (inReach && f .firsts .some)) 6
     (cond (f .firsts .underlyings) 7
     (cond (f .firsts .styles) 8
     (cond (f .firsts .markets) 9
     (cond doubled 10
-    (cond (isBalanced (f .calls))
-    (cond (isBalanced (f .puts))
-    (cond (ltb (f .lives .earliest) (f .lives .latest)) 13 0)
-    12)
-    11)))))
-    6
+    (cond (not (isBalanced (f .calls))) 11
+    (cond (not (isBalanced (f .puts))) 12
+    (cond (ltb (f .lives .earliest) (f .lives .latest)) 13 0)))))))
 
 abbrev pub numberFault : ℕ → ℕ → Fault
 numberFault number g = cond (eqb number 0) Nothing (Is (refuse number 2 g))

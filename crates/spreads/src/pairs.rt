@@ -1,9 +1,11 @@
 // 'The search for a doubled series ends at the first pair found.'
 ghost use mathlib.Core.Path.{_≡_};
+ghost use mathlib.Core.Bool.{not};
 ghost use Prim.Native.Nat.{_/_};
 ghost use lib.ListN.{length};
-ghost use Rattle.spreads.specs.Search.{clash, firstPair, isFound};
-ghost use Rattle.spreads.specs.Spreads.{doubled};
+ghost use Rattle.records.specs.Tables.{legsOf};
+ghost use Rattle.spreads.specs.Spreads.{groupOf, doubled, noneDoubled};
+ghost use Rattle.spreads.specs.Search.{clash, firstPair};
 use crate::legs::leg_at;
 use records::Leg;
 use records::RECORD_BYTES;
@@ -57,7 +59,7 @@ fn first_doubled(placement: &[u8], g: usize) -> Pair
 
 // Whether a series of group g is both long and short.
 pub(crate) fn is_doubled(placement: &[u8], g: usize) -> bool
-    ensures { λ r. ⌜ r ≡ isFound (firstPair g (now (placement .entry)) 0 (length (now (placement .entry)) / 32)) ⌝ }
+    ensures { λ r. ⌜ r ≡ not (noneDoubled (groupOf g (legsOf (now (placement .entry))))) ⌝ }
 {
     match first_doubled(placement, g) {
         Pair::At(_, _) => true,
