@@ -44,19 +44,20 @@ module _ {A : Type 0} where
     pub many : i ≤ n
     pub is : foldl step state (rest g xs i) ≡ foldl step none (groupOf g (legsOf xs))
 
-  module _ (step : A → Leg → A) (none : A) (g : ℕ) (xs : List ℕ) where
-    pub fold-none : (state : A) → state ≡ none → Folding step none g xs (length xs / 32) 0 state
-    fold-none state e = rw e (record { all = omega arith; many = omega arith; is = ap (λ (ls : List Leg). foldl step none (groupOf g ls)) (legs-all xs) })
+  pub fold-none : {step : A → Leg → A} {none : A} {g : ℕ} {xs : List ℕ} {state : A} → state ≡ none
+      → Folding step none g xs (length xs / 32) 0 state
+  fold-none {step} {none} {g} {xs} e =
+      rw e (record { all = omega arith; many = omega arith; is = ap (λ (ls : List Leg). foldl step none (groupOf g ls)) (legs-all xs) })
 
-    module _ (n i : ℕ) (state : A) (f : Folding step none g xs n i state) where
-      pub fold-done : n ≤ i → state ≡ foldl step none (groupOf g (legsOf xs))
-      fold-done h = ap (foldl step state) (sym (rest-none g xs i (omega arith))) ∙ f .is
+  module _ {step : A → Leg → A} {none : A} {g : ℕ} {xs : List ℕ} {n i : ℕ} {state : A} (f : Folding step none g xs n i state) where
+    pub fold-done : n ≤ i → state ≡ foldl step none (groupOf g (legsOf xs))
+    fold-done h = ap (foldl step state) (sym (rest-none g xs i (omega arith))) ∙ f .is
 
-      module _ (l : Leg) (h : i < n) (e : l ≡ legOf (chunkAt 32 xs i)) (next : A) where
-        pub fold-in : l .group ≡ g → next ≡ step state l → Folding step none g xs n (i + 1) next
-        fold-in p q =
-            rw q (record { all = f .all; many = omega arith; is = ap (foldl step state) (sym (rest-in g xs i l (omega arith) e p)) ∙ f .is })
+    module _ (h : i < n) {l : Leg} (e : l ≡ legOf (chunkAt 32 xs i)) where
+      pub fold-in : {next : A} → l .group ≡ g → next ≡ step state l → Folding step none g xs n (i + 1) next
+      fold-in p q =
+          rw q (record { all = f .all; many = omega arith; is = ap (foldl step state) (sym (rest-in g xs i l (omega arith) e p)) ∙ f .is })
 
-        pub fold-out : (l .group ≡ g → ⊥) → next ≡ state → Folding step none g xs n (i + 1) next
-        fold-out p q =
-            rw q (record { all = f .all; many = omega arith; is = ap (foldl step state) (sym (rest-out g xs i l (omega arith) e p)) ∙ f .is })
+      pub fold-out : {next : A} → (l .group ≡ g → ⊥) → next ≡ state → Folding step none g xs n (i + 1) next
+      fold-out p q =
+          rw q (record { all = f .all; many = omega arith; is = ap (foldl step state) (sym (rest-out g xs i l (omega arith) e p)) ∙ f .is })

@@ -28,10 +28,10 @@ worth-more k w [] = (omega arith, omega arith)
 worth-more k w (l ∷ legs) = let r = worth-more k (withWorth k w l) legs in (omega arith, omega arith)
 
 -- both sums have room for the next leg
-pub worth-room : (k g : ℕ) (xs : List ℕ) → Placed xs → k < top → (n i : ℕ) (w : Worth) → Folding (withWorth k) noWorth g xs n i w
-    → (l : Leg) → i < n → l ≡ legOf (chunkAt 32 xs i)
+pub worth-room : {k g : ℕ} {xs : List ℕ} {n i : ℕ} {w : Worth} → Folding (withWorth k) noWorth g xs n i w → Placed xs → k < top
+    → i < n → {l : Leg} → l ≡ legOf (chunkAt 32 xs i)
     → (w .long + units l * intrinsic 1 k l < 2 ^ 64) × (w .short + units l * intrinsic 1 k l < 2 ^ 64)
-worth-room k g xs p b n i w f l h e =
+worth-room {k} {g} {xs} {i = i} {w = w} f p b h {l} e =
     let v : units l * intrinsic 1 k l ≤ 10000000000000000 = rw e (worth-small k (legOf (chunkAt 32 xs i)) (leg-ranges xs p i (omega arith)) b) in
     let all = sides-small k (groupOf g (legsOf xs)) (group-ranges xs p g) b (group-few xs p g) in
     let whole = worth-more k noWorth (groupOf g (legsOf xs)) in

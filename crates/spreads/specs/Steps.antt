@@ -2,7 +2,7 @@
 use mathlib.Core.Path.{_≡_}
 use mathlib.Core.Bool.{Bool, not, _&&_, cond}
 use mathlib.Core.List.{List, [], _∷_, foldl}
-use Prim.Native.Nat.{ℕ, _+_, _*_}
+use Prim.Native.Nat.{ℕ, _+_, _*_, min}
 use lib.Dec.{eqb, ltb}
 use lib.ListN.{length}
 use Rattle.records.specs.Lists.{only}
@@ -62,9 +62,9 @@ worthAt price legs = foldl (withWorth price) noWorth legs
 abbrev pub top : ℕ
 top = 100000000
 
--- a strike where it is above x, else more than any
-abbrev pub aboveOf : ℕ → ℕ → ℕ
-aboveOf x strike = cond (ltb x strike) strike top
+-- a strike, where it is above x and below the least so far
+abbrev pub nearerOf : ℕ → ℕ → ℕ → ℕ
+nearerOf x least strike = cond (ltb x strike) (min least strike) least
 
 -- the first strike of an ascending list above x, or `top`
 unfoldable pub firstAbove : ℕ → List ℕ → ℕ

@@ -15,20 +15,20 @@ abbrev μ-loop : tie.MeasureT-loop
 μ-loop placement g n facts₀ i₀ facts i = n - i
 
 loop-holds : tie.Need-loop-holds Inv-loop μ-loop
-loop-holds c = fold-none _ _ _ _ _ (c .none .ensures)
+loop-holds c = fold-none (c .none .ensures)
 
 loop-again : tie.Need-loop-again Inv-loop μ-loop
 loop-again c =
     let t = c .before .before in
-    let l = t .before .before .loop in
+    let inv = t .before .before .loop .inv in
     ⊎-elim
-    (λ w. fold-in _ _ _ _ _ _ _ (l .inv) _ (t .before .loop-test .taken) (t .leg-at .ensures) _ (w .0 .taken) (w .2 ∙ w .1 .ensures))
-    (λ w. fold-out _ _ _ _ _ _ _ (l .inv) _ (t .before .loop-test .taken) (t .leg-at .ensures) _ (w .0 .left) (w .1))
+    (λ w. fold-in inv (t .before .loop-test .taken) (t .leg-at .ensures) (w .0 .taken) (w .2 ∙ w .1 .ensures))
+    (λ w. fold-out inv (t .before .loop-test .taken) (t .leg-at .ensures) (w .0 .left) (w .1))
     (c .if1 .came)
 
 returns : tie.Need-returns Inv-loop μ-loop
 unfolding gathered
-returns c = fold-done _ _ _ _ _ _ _ (c .before .loop .inv) (c .loop-test .left)
+returns c = fold-done (c .before .loop .inv) (c .loop-test .left)
 
 pub gather-spec : {M : Type 1} → statement M
 gather-spec =

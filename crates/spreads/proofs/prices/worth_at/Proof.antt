@@ -18,20 +18,20 @@ with-leg-requires : tie.Need-with-leg-requires Inv-loop μ-loop
 with-leg-requires c κs =
     let t = c .before .before in
     let s = t .before .before .before .before .pre in
-    worth-room _ _ _ (s .0) (s .1) _ _ _ (t .before .before .loop .inv) _ (t .before .loop-test .taken) (t .leg-at .ensures)
+    worth-room (t .before .before .loop .inv) (s .0) (s .1) (t .before .loop-test .taken) (t .leg-at .ensures)
 
 loop-again : tie.Need-loop-again Inv-loop μ-loop
 loop-again c =
     let t = c .before .before in
-    let l = t .before .before .loop in
+    let inv = t .before .before .loop .inv in
     ⊎-elim
-    (λ w. fold-in _ _ _ _ _ _ _ (l .inv) _ (t .before .loop-test .taken) (t .leg-at .ensures) _ (w .0 .taken) (w .2 ∙ w .1 .ensures))
-    (λ w. fold-out _ _ _ _ _ _ _ (l .inv) _ (t .before .loop-test .taken) (t .leg-at .ensures) _ (w .0 .left) (w .1))
+    (λ w. fold-in inv (t .before .loop-test .taken) (t .leg-at .ensures) (w .0 .taken) (w .2 ∙ w .1 .ensures))
+    (λ w. fold-out inv (t .before .loop-test .taken) (t .leg-at .ensures) (w .0 .left) (w .1))
     (c .if1 .came)
 
 returns : tie.Need-returns Inv-loop μ-loop
 unfolding worthAt
-returns c = fold-done _ _ _ _ _ _ _ (c .before .loop .inv) (c .loop-test .left)
+returns c = fold-done (c .before .loop .inv) (c .loop-test .left)
 
 pub worth-at-spec : {M : Type 1} → statement M
 worth-at-spec =
@@ -39,7 +39,7 @@ worth-at-spec =
     (tie.spec
     Inv-loop
     μ-loop
-    (λ c. fold-none _ _ _ _ _ refl)
+    (λ c. fold-none refl)
     (λ c κs. omega arith)
     (λ c. omega arith)
     with-leg-requires
