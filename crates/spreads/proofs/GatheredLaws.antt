@@ -1,13 +1,12 @@
 -- What is gathered of a group, leg by leg, is what document 01's rule asks about.
-use Prim.Native.Nat.{ℕ, suc, _+_, _≤_, min, max}
-use mathlib.Core.Path.{_≡_, refl, sym, _∙_}
-use mathlib.Core.Bool.{Bool, true, false, not, _&&_, _||_, cond, or-false}
+use Prim.Native.Nat.{ℕ, _+_, _≤_, min, max}
+use mathlib.Core.Path.{_≡_, refl, _∙_}
+use mathlib.Core.Bool.{Bool, true, false, not, _&&_, cond}
 use mathlib.Core.List.{List, [], _∷_, foldl}
 use native.Mathlib.Omega.{arith}
-use lib.Dec.{leb, eqb}
+use lib.Dec.{leb}
 use lib.ListN.{length}
-use borrow.Author.Tests.{le-leb}
-use Rattle.records.specs.Lists.{only, sum, most, least, allb, All}
+use Rattle.records.specs.Lists.{only, sum, most, least, All}
 use Rattle.records.specs.Legs.{isLong, isShort, isCall, isPut, units, unitsOf, plusUnits}
 use Rattle.records.specs.declared.counts.Units.{Units}
 use Rattle.records.specs.declared.legs.Leg.{Leg}
@@ -15,11 +14,11 @@ use Rattle.records.proofs.ListLaws.{all-map, sum-bound}
 use Rattle.records.proofs.TableLaws.{Ranges, units-small}
 use Rattle.spreads.specs.Spreads.{oneOf, unitsIn, latestShort, earliestLong, never}
 use Rattle.spreads.specs.Gathered.{withFirsts, withUnits, withExpiry, withLeg, noFacts, gathered}
-use Rattle.spreads.specs.declared.facts.Firsts.{Firsts}
 use Rattle.spreads.specs.declared.facts.Sides.{Sides}
 use Rattle.spreads.specs.declared.facts.Lives.{Lives}
 use Rattle.spreads.specs.declared.facts.Facts.{Facts}
 use Rattle.spreads.proofs.Bounds.{only-less}
+use Rattle.spreads.proofs.FirstsLaws.{firsts-are}
 
 -- ---- each part of the facts is gathered by itself
 
@@ -40,47 +39,6 @@ parts : (f : Facts) (legs : List Leg)
 unfolding withLeg
 parts f [] = refl
 parts f (l ∷ legs) = parts (withLeg f l) legs
-
--- ---- the firsts
-
--- whether a field of one of the legs is not v, or it was so before
-abbrev differ : (Leg → ℕ) → ℕ → Bool → List Leg → Bool
-differ field v before legs = before || not (allb (λ l. eqb (field l) v) legs)
-
-differ-more : (field : Leg → ℕ) (v : ℕ) (before : Bool) (l : Leg) (legs : List Leg)
-    → differ field v (before || not (eqb (field l) v)) legs ≡ differ field v before (l ∷ legs)
-unfolding allb
-differ-more field v before l legs = go before (eqb (field l) v)
-  where
-    go : (b t : Bool) → (b || not t || not (allb (λ l. eqb (field l) v) legs)) ≡ (b || not (t && allb (λ l. eqb (field l) v) legs))
-    go true t = refl
-    go false true = refl
-    go false false = refl
-
-abbrev seen : ℕ → ℕ → ℕ → Bool → Bool → Bool → Firsts
-seen u s m us ss ms =
-    record { some = true; underlying = u; style = s; market = m; underlyings = us; styles = ss; markets = ms }
-
-firsts-after : (u s m : ℕ) (us ss ms : Bool) (legs : List Leg)
-    → foldl withFirsts (seen u s m us ss ms) legs
-    ≡ seen u s m (differ (λ l. l .underlying) u us legs) (differ (λ l. l .style) s ss legs) (differ (λ l. l .market) m ms legs)
-unfolding withFirsts allb
-firsts-after u s m us ss ms [] = simp or-false
-firsts-after u s m us ss ms (l ∷ legs) =
-    rw (differ-more (λ l. l .underlying) u us l legs, differ-more (λ l. l .style) s ss l legs, differ-more (λ l. l .market) m ms l legs) at
-    (firsts-after u s m (us || not (eqb (l .underlying) u)) (ss || not (eqb (l .style) s)) (ms || not (eqb (l .market) m)) legs)
-
-firsts-are : (legs : List Leg)
-    → let f = foldl withFirsts (noFacts .firsts) legs in
-    (f .some ≡ leb 1 (length legs))
-    × (f .underlyings ≡ not (oneOf (λ l. l .underlying) legs))
-    × (f .styles ≡ not (oneOf (λ l. l .style) legs))
-    × (f .markets ≡ not (oneOf (λ l. l .market) legs))
-unfolding withFirsts oneOf
-firsts-are [] = (refl, refl, refl, refl)
-firsts-are (l ∷ legs) =
-    rw (firsts-after (l .underlying) (l .style) (l .market) false false false legs)
-    (sym (le-leb 1 (suc (length legs)) (omega arith)), refl, refl, refl)
 
 -- ---- the units
 
