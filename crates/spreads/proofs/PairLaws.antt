@@ -15,11 +15,11 @@ use Rattle.records.specs.Legs.{legOf}
 use Rattle.records.specs.Tables.{legsOf}
 use Rattle.records.specs.declared.legs.Leg.{Leg}
 use Rattle.records.proofs.ChunkLaws.{chunks-all, chunks-none}
-use Rattle.spreads.proofs.TestLaws.{neither, allb-append, allb-and, allb-keep, keep-append}
 use Rattle.spreads.specs.Spreads.{groupOf, sameSeries, doubled, noneDoubled}
 use Rattle.spreads.specs.Search.{clash, legsBetween, pairWith, firstPair}
 use Rattle.spreads.specs.declared.pairs.Pair.{Pair}
 use Rattle.spreads.specs.declared.pairs.Pair.the-variants.{At, Nothing}
+use Rattle.spreads.proofs.TestLaws.{neither, allb-append, allb-and, allb-keep, keep-append}
 
 -- ---- one leg more
 

@@ -1,9 +1,9 @@
 -- What the legs of one side pay changes with the price in straight lines that turn only at strikes.
+use Prim.Native.Nat.{ℕ, _+_, _*_, _-_, _≤_}
 use mathlib.Core.Path.{_≡_, refl, ap}
 use mathlib.Core.Bool.{Bool, true, false}
 use mathlib.Core.Logic.{_⊎_, inl, inr}
 use mathlib.Core.List.{List}
-use Prim.Native.Nat.{ℕ, _+_, _*_, _-_, _≤_}
 use native.Mathlib.Nat.{one-mul, mul-sub}
 use native.Mathlib.Omega.{arith}
 use Rattle.records.specs.Lists.{only, sum, All}

@@ -1,8 +1,8 @@
 -- What the steps of the calls compute, for the contracts of functions that are not public.
+use Prim.Native.Nat.{ℕ, _+_, _*_, min}
 use mathlib.Core.Path.{_≡_}
 use mathlib.Core.Bool.{Bool, not, _&&_, cond}
 use mathlib.Core.List.{List, [], _∷_, foldl}
-use Prim.Native.Nat.{ℕ, _+_, _*_, min}
 use lib.Dec.{eqb, ltb}
 use lib.ListN.{length}
 use Rattle.records.specs.Lists.{only}

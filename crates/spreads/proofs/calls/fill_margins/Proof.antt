@@ -1,10 +1,10 @@
 use Prim.Native.Nat.{_-_, _≤_}
 use mathlib.Core.Path.{sym, ap, _∙_}
 use native.Mathlib.Omega.{arith}
-use borrow.Author.Needs.{needs}
 use lib.IntN.{pos}
 use mir.Syntax.{w64}
 use mir.Facts.{toZ-pos}
+use borrow.Author.Needs.{needs}
 use Rattle.records.specs.Tables.{legsOf}
 use Rattle.spreads.specs.Calls.{marginsFrom}
 use Rattle.spreads.proofs.Answers.{length-margins, margin-at}

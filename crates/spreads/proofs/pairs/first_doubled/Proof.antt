@@ -4,8 +4,8 @@ use mathlib.Core.Bool.{true, false}
 use mathlib.Core.Logic.{⊎-elim}
 use native.Mathlib.Nat.{sub-zero}
 use native.Mathlib.Omega.{arith}
-use borrow.Author.Needs.{needs}
 use lib.ListN.{length}
+use borrow.Author.Needs.{needs}
 use Rattle.spreads.specs.Search.{legsBetween, pairWith, firstPair}
 use Rattle.spreads.proofs.SearchLaws.{with-next, with-end, pair-end, pair-in, pair-out}
 use Rattle.spreads.proofs.pairs.first_doubled.Statement.{statement}

@@ -1,7 +1,7 @@
 use mathlib.Core.Path.{_≡_}
+use denote.Ref.{now}
 use borrow.Author.Needs.{needs}
 use borrow.Author.Tests.{eq-eqb, ne-eqb}
-use denote.Ref.{now}
 use Rattle.records.specs.Order.{firstOf}
 use Rattle.records.specs.Tables.{legsOf}
 use Rattle.spreads.specs.Spreads.{groupOf, spreadChecks}

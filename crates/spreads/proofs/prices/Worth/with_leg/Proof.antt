@@ -1,5 +1,5 @@
-use mathlib.Core.Path.{_≡_}
 use Prim.Native.Nat.{_*_}
+use mathlib.Core.Path.{_≡_}
 use native.Mathlib.Nat.{add-zero}
 use native.Mathlib.Omega.{arith}
 use borrow.Author.Needs.{needs}
