@@ -1,4 +1,4 @@
--- How much legs within their ranges can be worth at a price below 100,000,000, and how much a group can lose.
+-- How much legs within their ranges can be worth at a price that a strike can have, and how much a group can lose.
 use Prim.Native.Nat.{ℕ, zero, suc, _-_, _*_, _/_, _≤_, _<_}
 use mathlib.Core.Bool.{Bool, true, false}
 use mathlib.Core.List.{List, [], _∷_}
@@ -20,7 +20,7 @@ use Rattle.records.proofs.TableLaws.{Ranges, units-small, placement-ranges, len
 use Rattle.spreads.specs.Prices.{intrinsic, value, longAt, shortAt, at, lossAt}
 use Rattle.spreads.specs.Strikes.{marginOf}
 use Rattle.spreads.specs.Spreads.{groupOf}
-use Rattle.spreads.specs.Steps.{Placed}
+use Rattle.spreads.specs.Steps.{Placed, top}
 use Rattle.spreads.proofs.StrikeSums.{margin-legs}
 
 -- ---- one leg
@@ -29,18 +29,18 @@ pub only-less : (b : Bool) (x : ℕ) → only b x ≤ x
 only-less true x = omega arith
 only-less false x = omega arith
 
-intrinsic-small : (k : ℕ) (l : Leg) → Ranges 32 l → k < 100000000 → intrinsic 1 k l ≤ 100000000
+intrinsic-small : (k : ℕ) (l : Leg) → Ranges 32 l → k < top → intrinsic 1 k l ≤ 100000000
 unfolding intrinsic
 intrinsic-small k l r h =
     omega (arith, only-less (isCall l) (k - 1 * l .strike), only-less (isPut l) (1 * l .strike - k), r .strike)
 
 -- at most 100,000,000 units of 100,000,000 mills
-pub worth-small : (k : ℕ) (l : Leg) → Ranges 32 l → k < 100000000 → units l * intrinsic 1 k l ≤ 10000000000000000
+pub worth-small : (k : ℕ) (l : Leg) → Ranges 32 l → k < top → units l * intrinsic 1 k l ≤ 10000000000000000
 worth-small k l r h = mul-le-mul (units-small 32 l r .1) (intrinsic-small k l r h)
 
 -- ---- many legs
 
-module _ (k : ℕ) (legs : List Leg) (r : All (Ranges 32) legs) (h : k < 100000000) where
+module _ (k : ℕ) (legs : List Leg) (r : All (Ranges 32) legs) (h : k < top) where
   side-bound : (side : Leg → Bool) → sum (λ l. only (side l) (value 1 (at k) l)) legs ≤ 10000000000000000 * length legs
   unfolding value
   side-bound side =

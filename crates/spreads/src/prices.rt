@@ -6,7 +6,7 @@ ghost use Rattle.records.specs.Legs.{units};
 ghost use Rattle.records.specs.Tables.{legsOf};
 ghost use Rattle.spreads.specs.Prices.{intrinsic};
 ghost use Rattle.spreads.specs.Spreads.{groupOf};
-ghost use Rattle.spreads.specs.Steps.{Placed, withWorth, worthAt};
+ghost use Rattle.spreads.specs.Steps.{Placed, top, withWorth, worthAt};
 use crate::legs::leg_at;
 use records::Leg;
 use records::RECORD_BYTES;
@@ -72,7 +72,7 @@ impl Worth {
 // What group g of a checked placement is worth at a price.
 pub(crate) fn worth_at(placement: &[u8], g: usize, price: u32) -> Worth
     requires { ⌜ Placed (now placement) ⌝ }
-    requires { ⌜ price < 100000000 ⌝ }
+    requires { ⌜ price < top ⌝ }
     ensures { λ r. ⌜ r ≡ worthAt price (groupOf g (legsOf (now (placement .entry)))) ⌝ }
 {
     let n = placement.len() / RECORD_BYTES;
