@@ -1,6 +1,6 @@
 -- The search for a doubled series, one place further at each turn of its two loops.
 use Prim.Native.Nat.{ℕ, suc, _+_, _-_, _≤_, _<_}
-use mathlib.Core.Path.{_≡_, sym}
+use mathlib.Core.Path.{_≡_}
 use mathlib.Core.Bool.{Bool, cond}
 use mathlib.Core.List.{List}
 use native.Mathlib.Omega.{arith}
@@ -43,9 +43,8 @@ module _ (g : ℕ) (xs : List ℕ) where
           let k : n - j ≡ suc (n - (j + 1)) = omega arith in
           rw (k, ← e, eq-eqb (x .group) g p)
 
-      pub pair-out : (x .group ≡ g → ⊥)
-          → firstPair g xs j (n - j) ≡ pairWith g x j j (legsBetween xs j j) (firstPair g xs (j + 1) (n - (j + 1)))
+      pub pair-out : (x .group ≡ g → ⊥) → firstPair g xs j (n - j) ≡ firstPair g xs (j + 1) (n - (j + 1))
       unfolding firstPair
       pair-out p =
           let k : n - j ≡ suc (n - (j + 1)) = omega arith in
-          rw (k, ← e, ne-eqb (x .group) g p) (sym (with-end x j j _ (omega arith)))
+          rw (k, ← e, ne-eqb (x .group) g p)

@@ -43,15 +43,14 @@ fn first_doubled(placement: &[u8], g: usize) -> Pair
             break 'pairs Pair::Nothing;
         }
         let later = leg_at(placement, j);
-        let mut i: usize = 0;
-        if later.group as usize != g {
-            i = j;
-        }
-        while i < j {
-            if is_clash(g, later, leg_at(placement, i)) {
-                break 'pairs Pair::At(j, i);
+        if later.group as usize == g {
+            let mut i: usize = 0;
+            while i < j {
+                if is_clash(g, later, leg_at(placement, i)) {
+                    break 'pairs Pair::At(j, i);
+                }
+                i += 1;
             }
-            i += 1;
         }
         j += 1;
     }

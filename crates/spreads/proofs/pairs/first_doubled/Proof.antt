@@ -28,21 +28,21 @@ abbrev μ-pairs : tie.MeasureT-pairs
 loop-holds : tie.Need-loop-holds Inv-loop μ-loop Inv-pairs μ-pairs
 loop-holds c =
     let t = c .before .before in
-    let found = t .before .before .pairs .inv .2 in
-    ⊎-elim
-    (λ w. rw (w .1) (refl, omega arith, omega arith, found ∙ pair-out _ _ _ _ _ (omega arith) (t .leg-at .ensures) (w .0 .taken)))
-    (λ w. rw (w .1) (refl, omega arith, omega arith, found ∙ pair-in _ _ _ _ _ (omega arith) (t .leg-at .ensures) (w .0 .left)))
-    (c .if2 .came)
+    (refl, omega arith, omega arith, t .before .before .pairs .inv .2 ∙ pair-in _ _ _ _ _ (omega arith) (t .leg-at .ensures) (c .if2 .taken))
 
 loop-again : tie.Need-loop-again Inv-loop μ-loop Inv-pairs μ-pairs
 loop-again c =
-    let s = c .before in
-    let t = s .before .before in
+    let t = c .before .before in
     let inv = t .before .before .loop .inv in
-    (refl, omega arith, omega arith, inv .3 ∙ with-next _ _ _ _ _ _ _ false (omega arith) (t .leg-at2 .ensures) (sym (s .if3 .left) ∙ s .before .is-clash .ensures))
+    (refl, omega arith, omega arith, inv .3 ∙ with-next _ _ _ _ _ _ _ false (omega arith) (t .leg-at2 .ensures) (sym (c .if3 .left) ∙ c .before .is-clash .ensures))
 
 pairs-again : tie.Need-pairs-again Inv-loop μ-loop Inv-pairs μ-pairs
-pairs-again c = (refl, omega arith, c .before .loop .inv .3 ∙ with-end _ _ _ _ _ _ (omega arith))
+pairs-again c =
+    let t = c .before .before in
+    ⊎-elim
+    (λ w. (refl, omega arith, w .1 .inv .3 ∙ with-end _ _ _ _ _ _ (w .2 .left)))
+    (λ w. (refl, omega arith, t .before .before .pairs .inv .2 ∙ pair-out _ _ _ _ _ (omega arith) (t .leg-at .ensures) (w .left)))
+    (c .if2 .came)
 
 returns : tie.Need-returns Inv-loop μ-loop Inv-pairs μ-pairs
 returns c = sym (c .before .pairs .inv .2 ∙ pair-end _ _ _ _ (omega arith))
