@@ -23,10 +23,10 @@ or-le a b = elim (decLe a b) [ yes h ↦ inl h | no h ↦ inr (omega arith) ]
 module _ (legs : List Leg) (calls : unitsIn isLong isCall legs ≡ unitsIn isShort isCall legs)
     (puts : unitsIn isLong isPut legs ≡ unitsIn isShort isPut legs) (d : ℕ) where
   -- what the shorts cost in excess is covered by d times the margin
-  abbrev Ok : ℕ → Type 0
-  Ok n = shortAt d (at n) legs ≤ longAt d (at n) legs + d * marginOf legs
+  abbrev Covered : ℕ → Type 0
+  Covered n = shortAt d (at n) legs ≤ longAt d (at n) legs + d * marginOf legs
 
-  at-strikes : All (λ l. Ok (d * l .strike)) legs
+  at-strikes : All (λ l. Covered (d * l .strike)) legs
   unfolding longAt shortAt lossAt
   at-strikes =
       all-map legs
@@ -37,40 +37,40 @@ module _ (legs : List Leg) (calls : unitsIn isLong isCall legs ≡ unitsIn isSho
       omega (arith, mul-le-mul-left d g))
       (most-all (λ l. lossAt legs (l .strike)) legs)
 
-  between : (a n b : ℕ) → a ≤ n → n < b → All (λ l. (d * l .strike ≤ a) ⊎ (b ≤ d * l .strike)) legs → Ok a → Ok b → Ok n
+  between : (a n b : ℕ) → a ≤ n → n < b → All (λ l. (d * l .strike ≤ a) ⊎ (b ≤ d * l .strike)) legs → Covered a → Covered b → Covered n
   unfolding longAt shortAt
-  between a n b h k out oa ob =
+  between a n b h k out ca cb =
       let p = n - a in
       let q = b - n in
       let e : a + p ≡ n = omega arith in
       let f : n + q ≡ b = omega arith in
       let ls = line isLong d legs a n b p q e f out in
       let ss = line isShort d legs a n b p q e f out in
-      le-of-mul-le-mul-left {k = p + q} (omega (arith, mul-le-mul-left q oa, mul-le-mul-left p ob, ls, ss)) (omega arith)
+      le-of-mul-le-mul-left {k = p + q} (omega (arith, mul-le-mul-left q ca, mul-le-mul-left p cb, ls, ss)) (omega arith)
 
-  below : (n b : ℕ) → n ≤ b → All (λ l. b ≤ d * l .strike) legs → Ok b → Ok n
+  below : (n b : ℕ) → n ≤ b → All (λ l. b ≤ d * l .strike) legs → Covered b → Covered n
   unfolding longAt shortAt
-  below n b h out ob =
+  below n b h out cb =
       let q = b - n in
       let e : n + q ≡ b = omega arith in
       omega (arith, under isLong d legs n b q e out, under isShort d legs n b q e out, ap (λ (u : ℕ). q * u) puts)
 
-  above : (n a : ℕ) → a ≤ n → All (λ l. d * l .strike ≤ a) legs → Ok a → Ok n
+  above : (n a : ℕ) → a ≤ n → All (λ l. d * l .strike ≤ a) legs → Covered a → Covered n
   unfolding longAt shortAt
-  above n a h out oa =
+  above n a h out ca =
       let p = n - a in
       let e : a + p ≡ n = omega arith in
       omega (arith, over isLong d legs n a p e out, over isShort d legs n a p e out, ap (λ (u : ℕ). p * u) calls)
 
   -- of the strikes at or below n the greatest, or none is
   abbrev Low : ℕ → Type 0
-  Low n = Front (λ a b. a ≤ b) (λ x. x ≤ n) (λ l. d * l .strike) (λ l. Ok (d * l .strike)) legs
+  Low n = Front (λ a b. a ≤ b) (λ x. x ≤ n) (λ l. d * l .strike) (λ l. Covered (d * l .strike)) legs
 
   -- of those above n the least, or none is
   abbrev High : ℕ → Type 0
-  High n = Front (λ a b. b ≤ a) (λ x. n < x) (λ l. d * l .strike) (λ l. Ok (d * l .strike)) legs
+  High n = Front (λ a b. b ≤ a) (λ x. n < x) (λ l. d * l .strike) (λ l. Covered (d * l .strike)) legs
 
-  meet : (n : ℕ) → Low n → High n → Ok n
+  meet : (n : ℕ) → Low n → High n → Covered n
   unfolding shortAt
   meet n (inl lo) (inl hi) = nothing legs (all-zip legs (λ l h k. k (omega arith)) lo hi)
     where

@@ -13,7 +13,7 @@ use Rattle.records.specs.declared.legs.Leg.{Leg}
 use Rattle.records.proofs.ListLaws.{all-map, sum-bound}
 use Rattle.records.proofs.TableLaws.{Ranges, units-small}
 use Rattle.spreads.specs.Spreads.{oneOf, unitsIn, latestShort, earliestLong, never}
-use Rattle.spreads.specs.Gathered.{withFirsts, withUnits, withExpiry, withLeg, noFacts, gathered}
+use Rattle.spreads.specs.Gathered.{withFirsts, withUnits, withRight, withExpiry, withLife, withLeg, noFacts, gathered}
 use Rattle.spreads.specs.declared.facts.Sides.{Sides}
 use Rattle.spreads.specs.declared.facts.Lives.{Lives}
 use Rattle.spreads.specs.declared.facts.Facts.{Facts}
@@ -21,12 +21,6 @@ use Rattle.spreads.proofs.Bounds.{only-less}
 use Rattle.spreads.proofs.FirstsLaws.{firsts-are}
 
 -- ---- each part of the facts is gathered by itself
-
-abbrev withRight : (Leg → Bool) → Sides → Leg → Sides
-withRight right s l = withUnits s (right l) (l .side) (unitsOf (l .contracts) (l .size))
-
-abbrev withLife : Lives → Leg → Lives
-withLife v l = withExpiry v (l .side) (l .expiry)
 
 parts : (f : Facts) (legs : List Leg)
     → foldl withLeg f legs

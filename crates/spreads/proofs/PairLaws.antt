@@ -1,7 +1,7 @@
 -- The search finds a pair just where a series of the group is both long and short.
 use Prim.Native.Nat.{ℕ, zero, suc, _+_, _/_}
-use mathlib.Core.Path.{_≡_, refl, sym, ap, _∙_}
-use mathlib.Core.Bool.{Bool, true, false, cond, not, _&&_, _||_, and-true, and-assoc, and-comm, Bool·not-not}
+use mathlib.Core.Path.{_≡_, refl}
+use mathlib.Core.Bool.{Bool, true, false, cond, not, _&&_, _||_, and-true, and-assoc, and-comm}
 use mathlib.Core.List.{List, [], _∷_, _++_, map-append, append-nil}
 use native.Mathlib.Nat.{mul-zero, mul-suc, add-zero, add-comm, suc-add, zero-add}
 use native.Mathlib.Omega.{arith}
@@ -39,10 +39,13 @@ unfolding noneDoubled allb
 none-more legs x =
     simp (allb-append, self-clear x, and-true, neither, allb-and (λ a. allb (λ b. not (doubled a b)) legs) (λ a. not (doubled a x)) legs, allb-and (λ y. not (doubled y x)) (λ y. not (doubled x y)) legs, and-assoc)
 
+-- no leg of these clashes with x
+abbrev noClash : ℕ → Leg → List Leg → Bool
+noClash g x legs = allb (λ y. not (clash g x y)) legs
+
 module _ (g : ℕ) (x : Leg) (legs : List Leg) where
   -- x is in the group: what the search looks for among all legs before it is in the group too
-  more-in : eqb (x .group) g ≡ true
-      → (allb (λ y. not (clash g x y)) legs && noneDoubled (groupOf g legs)) ≡ noneDoubled (groupOf g (legs ++ x ∷ []))
+  more-in : eqb (x .group) g ≡ true → (noClash g x legs && noneDoubled (groupOf g legs)) ≡ noneDoubled (groupOf g (legs ++ x ∷ []))
   unfolding groupOf keep clash
   more-in p =
       rw (keep-append _ legs (x ∷ []), p, none-more (groupOf g legs) x, allb-keep (λ y. eqb (y .group) g) (λ y. doubled y x || doubled x y) legs, and-comm (noneDoubled (groupOf g legs)))
@@ -53,9 +56,10 @@ module _ (g : ℕ) (x : Leg) (legs : List Leg) where
 
 -- ---- the whole search
 
-abbrev pub isFound : Pair → Bool
-isFound (At j i) = true
-isFound Nothing = false
+-- no pair was found
+abbrev pub isClear : Pair → Bool
+isClear (At j i) = false
+isClear Nothing = true
 
 chunks-more : (size n : ℕ) (xs : List ℕ) → chunks size (n + 1) xs ≡ chunks size n xs ++ chunkAt size xs n ∷ []
 unfolding chunks
@@ -66,33 +70,31 @@ module _ (g : ℕ) (xs : List ℕ) where
   legs-more : (j : ℕ) → legsBetween xs 0 (j + 1) ≡ legsBetween xs 0 j ++ legOf (chunkAt 32 xs j) ∷ []
   legs-more j = rw (chunks-all 32 (j + 1) xs, chunks-all 32 j xs, chunks-more 32 j xs) (simp map-append)
 
-  with-found : (x : Leg) (j i : ℕ) (legs : List Leg) (otherwise : Pair)
-      → not (isFound (pairWith g x j i legs otherwise)) ≡ (allb (λ y. not (clash g x y)) legs && not (isFound otherwise))
+  with-clear : (x : Leg) (j i : ℕ) (legs : List Leg) (otherwise : Pair)
+      → isClear (pairWith g x j i legs otherwise) ≡ (noClash g x legs && isClear otherwise)
   unfolding pairWith allb
-  with-found x j i [] otherwise = refl
-  with-found x j i (y ∷ legs) otherwise = go (clash g x y) (with-found x j (i + 1) legs otherwise)
+  with-clear x j i [] otherwise = refl
+  with-clear x j i (y ∷ legs) otherwise = go (clash g x y) (with-clear x j (i + 1) legs otherwise)
     where
-      go : (t : Bool)
-          → not (isFound (pairWith g x j (i + 1) legs otherwise)) ≡ (allb (λ y. not (clash g x y)) legs && not (isFound otherwise))
-          → not (isFound (cond t (At j i) (pairWith g x j (i + 1) legs otherwise)))
-          ≡ (not t && allb (λ y. not (clash g x y)) legs && not (isFound otherwise))
+      go : (t : Bool) → isClear (pairWith g x j (i + 1) legs otherwise) ≡ (noClash g x legs && isClear otherwise)
+          → isClear (cond t (At j i) (pairWith g x j (i + 1) legs otherwise)) ≡ (not t && noClash g x legs && isClear otherwise)
       go true e = refl
       go false e = e
 
   search-more : (x : Leg) (j : ℕ) (legs : List Leg) (otherwise : Pair) (r : Bool)
-      → (not (isFound otherwise) && noneDoubled (groupOf g (legs ++ x ∷ []))) ≡ r
-      → (not (isFound (cond (eqb (x .group) g) (pairWith g x j 0 legs otherwise) otherwise)) && noneDoubled (groupOf g legs)) ≡ r
+      → (isClear otherwise && noneDoubled (groupOf g (legs ++ x ∷ []))) ≡ r
+      → (isClear (cond (eqb (x .group) g) (pairWith g x j 0 legs otherwise) otherwise) && noneDoubled (groupOf g legs)) ≡ r
   search-more x j legs otherwise r e = go (eqb (x .group) g) refl
     where
       go : (t : Bool) → eqb (x .group) g ≡ t
-          → (not (isFound (cond t (pairWith g x j 0 legs otherwise) otherwise)) && noneDoubled (groupOf g legs)) ≡ r
+          → (isClear (cond t (pairWith g x j 0 legs otherwise) otherwise) && noneDoubled (groupOf g legs)) ≡ r
       go true p =
-          rw (with-found x j 0 legs otherwise, and-comm (allb (λ y. not (clash g x y)) legs), and-assoc (not (isFound otherwise)), more-in g x legs p) e
+          rw (with-clear x j 0 legs otherwise, and-comm (noClash g x legs), and-assoc (isClear otherwise), more-in g x legs p) e
       go false p = rw (more-out g x legs p) e
 
+  -- m places from j on are clear, and the legs before them, just where all of them are
   search-clear : (m j : ℕ)
-      → (not (isFound (firstPair g xs j m)) && noneDoubled (groupOf g (legsBetween xs 0 j)))
-      ≡ noneDoubled (groupOf g (legsBetween xs 0 (j + m)))
+      → (isClear (firstPair g xs j m) && noneDoubled (groupOf g (legsBetween xs 0 j))) ≡ noneDoubled (groupOf g (legsBetween xs 0 (j + m)))
   unfolding firstPair
   search-clear zero j = rw add-zero
   search-clear (suc m) j =
@@ -103,10 +105,7 @@ module _ (g : ℕ) (xs : List ℕ) where
   unfolding groupOf keep noneDoubled allb
   empty-clear = rw (chunks-none 32 0 0 xs (omega arith))
 
-  -- the search finds a pair just where a series of the group is both long and short
-  pub found-is : isFound (firstPair g xs 0 (length xs / 32)) ≡ not (noneDoubled (groupOf g (legsOf xs)))
+  -- the search finds no pair just where no series of the group is both long and short
+  pub clear-is : isClear (firstPair g xs 0 (length xs / 32)) ≡ noneDoubled (groupOf g (legsOf xs))
   unfolding legsOf
-  found-is =
-      let e : not (isFound (firstPair g xs 0 (length xs / 32))) ≡ noneDoubled (groupOf g (legsOf xs)) =
-      rw (empty-clear, and-true, zero-add, chunks-all 32 (length xs / 32) xs) at (search-clear (length xs / 32) 0) in
-      sym (Bool·not-not (isFound (firstPair g xs 0 (length xs / 32)))) ∙ ap not e
+  clear-is = rw (empty-clear, and-true, zero-add, chunks-all 32 (length xs / 32) xs) at (search-clear (length xs / 32) 0)

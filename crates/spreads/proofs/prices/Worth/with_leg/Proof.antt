@@ -12,21 +12,12 @@ use Rattle.spreads.proofs.prices.Worth.with_leg.Tie as tie
 
 -- the product is what the leg is worth
 mills : (c : tie.After-intrinsic-at)
-    → c .before .number .result * c .intrinsic-at .result ≡ units (c .before .before .before .args .leg) * intrinsic 1 (c .before .before .before .args .price) (c .before .before .before .args .leg)
+    → let a = c .before .before .before .args in c .before .number .result * c .intrinsic-at .result ≡ units (a .leg) * intrinsic 1 (a .price) (a .leg)
 mills c = rw (c .before .number .ensures, c .before .before .units .ensures, c .intrinsic-at .ensures)
-
-mul-mills : tie.Need-mul-mills
-mul-mills c = rw (mills c) (omega arith)
-
-add-self : tie.Need-add-self
-add-self c = rw (mills (c .before .before .before)) (omega arith)
 
 returns : tie.Need-returns
 unfolding withWorth
 returns c = rw (mills (c .before .before .before), c .before .if1 .taken, add-zero)
-
-add-self-2 : tie.Need-add-self-2
-add-self-2 c = rw (mills (c .before .before .before .before .before)) (omega arith)
 
 returns-2 : tie.Need-returns-2
 unfolding withWorth
@@ -43,9 +34,9 @@ with-leg-spec =
     (λ c κs. search needs)
     (λ c κs. search needs)
     (λ c κs. search needs)
-    mul-mills
-    add-self
+    (λ c. rw (mills c) (omega arith))
+    (λ c. rw (mills (c .before .before .before)) (omega arith))
     returns
-    add-self-2
+    (λ c. rw (mills (c .before .before .before .before .before)) (omega arith))
     returns-2
     returns-3)
