@@ -7,6 +7,7 @@ pub mod Merge
 pub mod Bench
 pub mod Unique
 -- what these rest on
+pub mod Signed
 pub mod Placing
 pub mod StrikeSums
 pub mod Front
@@ -20,7 +21,6 @@ pub mod FirstsLaws
 pub mod GatheredLaws
 pub mod FaultLaws
 -- the walk up the strikes
-pub mod Signed
 pub mod Worths
 pub mod Ascending
 pub mod Walks
