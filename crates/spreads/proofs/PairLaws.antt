@@ -37,7 +37,15 @@ none-more : (legs : List Leg) (x : Leg)
     → noneDoubled (legs ++ x ∷ []) ≡ (noneDoubled legs && allb (λ y. not (doubled y x || doubled x y)) legs)
 unfolding noneDoubled allb
 none-more legs x =
-    simp (allb-append, self-clear x, and-true, neither, allb-and (λ a. allb (λ b. not (doubled a b)) legs) (λ a. not (doubled a x)) legs, allb-and (λ y. not (doubled y x)) (λ y. not (doubled x y)) legs, and-assoc)
+    simp (
+      allb-append,
+      self-clear x,
+      and-true,
+      neither,
+      allb-and (λ a. allb (λ b. not (doubled a b)) legs) (λ a. not (doubled a x)) legs,
+      allb-and (λ y. not (doubled y x)) (λ y. not (doubled x y)) legs,
+      and-assoc,
+    )
 
 -- no leg of these clashes with x
 abbrev noClash : ℕ → Leg → List Leg → Bool
@@ -48,7 +56,13 @@ module _ (g : ℕ) (x : Leg) (legs : List Leg) where
   more-in : eqb (x .group) g ≡ true → (noClash g x legs && noneDoubled (groupOf g legs)) ≡ noneDoubled (groupOf g (legs ++ x ∷ []))
   unfolding groupOf keep clash
   more-in p =
-      rw (keep-append _ legs (x ∷ []), p, none-more (groupOf g legs) x, allb-keep (λ y. eqb (y .group) g) (λ y. doubled y x || doubled x y) legs, and-comm (noneDoubled (groupOf g legs)))
+      rw (
+        keep-append _ legs (x ∷ []),
+        p,
+        none-more (groupOf g legs) x,
+        allb-keep (λ y. eqb (y .group) g) (λ y. doubled y x || doubled x y) legs,
+        and-comm (noneDoubled (groupOf g legs)),
+      )
 
   more-out : eqb (x .group) g ≡ false → noneDoubled (groupOf g legs) ≡ noneDoubled (groupOf g (legs ++ x ∷ []))
   unfolding groupOf keep
