@@ -1,8 +1,8 @@
 -- 'Accounts on the bench': document 01's rows P1 to P12 as one table, and one theorem about the definitions.
+use Prim.Native.Nat.{ℕ, _*_}
 use mathlib.Core.Path.{_≡_, refl}
 use mathlib.Core.Bool.{true}
 use mathlib.Core.List.{List, [], _∷_}
-use Prim.Native.Nat.{ℕ, _*_}
 use lib.IntN.{ℤ, pos, negℤ}
 use Rattle.records.specs.Lists.{sum, most, least, allb, All}
 use Rattle.records.specs.Dates.{daysIn, realDate}

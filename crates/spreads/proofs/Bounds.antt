@@ -1,22 +1,27 @@
--- How much legs within their ranges can be worth at a price below 100,000,000, and how much a group can lose.
-use Prim.Native.Nat.{ℕ, _-_, _*_, _≤_, _<_}
-use mathlib.Core.Bool.{Bool, true, false, cond}
+-- How much legs within their ranges can be worth at a price that a strike can have, and how much a group can lose.
+use Prim.Native.Nat.{ℕ, zero, suc, _-_, _*_, _/_, _≤_, _<_}
+use mathlib.Core.Bool.{Bool, true, false}
 use mathlib.Core.List.{List, [], _∷_}
 use native.Mathlib.Nat.{mul-le-mul}
+use native.Mathlib.Numerals.{add-one}
 use native.Mathlib.Omega.{arith}
-use lib.Dec.{eqb, ltb}
+use lib.Dec.{eqb}
 use lib.ListN.{length}
-use Rattle.records.specs.Lists.{only, most, All}
-use Rattle.records.specs.Legs.{isLong, isShort, isCall, isPut, units}
-use Rattle.records.specs.Tables.{legsOf}
+use Rattle.records.specs.Lists.{only, sum, most, All}
+use Rattle.records.specs.Chunks.{chunkAt}
+use Rattle.records.specs.Legs.{isLong, isShort, isCall, isPut, units, legOf}
+use Rattle.records.specs.Tables.{tableChecks, fieldChecks, legsOf, legsFrom}
 use Rattle.records.specs.declared.legs.Leg.{Leg}
 use Rattle.records.specs.declared.tables.Kind.the-variants.{Placement}
+use Rattle.records.proofs.ChunkLaws.{legs-all, legs-step}
 use Rattle.records.proofs.ListLaws.{all-map, all-keep, length-keep, sum-bound}
+use Rattle.records.proofs.OrderLaws.{clear, unclear}
 use Rattle.records.proofs.TableLaws.{Ranges, units-small, placement-ranges, length-legs, whole}
 use Rattle.spreads.specs.Prices.{intrinsic, value, longAt, shortAt, at, lossAt}
-use Rattle.spreads.specs.Strikes.{place, strikesOf, marginOf}
+use Rattle.spreads.specs.Strikes.{marginOf}
 use Rattle.spreads.specs.Spreads.{groupOf}
-use Rattle.spreads.specs.Steps.{Placed}
+use Rattle.spreads.specs.Steps.{Placed, top}
+use Rattle.spreads.proofs.StrikeSums.{margin-legs}
 
 -- ---- one leg
 
@@ -24,68 +29,44 @@ pub only-less : (b : Bool) (x : ℕ) → only b x ≤ x
 only-less true x = omega arith
 only-less false x = omega arith
 
-pub intrinsic-small : (k : ℕ) (l : Leg) → Ranges 32 l → k < 100000000 → intrinsic 1 k l ≤ 100000000
+intrinsic-small : (k : ℕ) (l : Leg) → Ranges 32 l → k < top → intrinsic 1 k l ≤ 100000000
 unfolding intrinsic
 intrinsic-small k l r h =
     omega (arith, only-less (isCall l) (k - 1 * l .strike), only-less (isPut l) (1 * l .strike - k), r .strike)
 
 -- at most 100,000,000 units of 100,000,000 mills
-pub worth-small : (k : ℕ) (l : Leg) → Ranges 32 l → k < 100000000 → units l * intrinsic 1 k l ≤ 10000000000000000
+pub worth-small : (k : ℕ) (l : Leg) → Ranges 32 l → k < top → units l * intrinsic 1 k l ≤ 10000000000000000
 worth-small k l r h = mul-le-mul (units-small 32 l r .1) (intrinsic-small k l r h)
-
-pub value-small : (k : ℕ) (l : Leg) → Ranges 32 l → k < 100000000 → value 1 (at k) l ≤ 10000000000000000
-unfolding value
-value-small k l r h = worth-small k l r h
 
 -- ---- many legs
 
-module _ (k : ℕ) (legs : List Leg) (r : All (Ranges 32) legs) (h : k < 100000000) where
-  pub long-bound : longAt 1 (at k) legs ≤ 10000000000000000 * length legs
-  unfolding longAt
-  long-bound =
-      sum-bound (λ l. only (isLong l) (value 1 (at k) l)) 10000000000000000 legs
-      (all-map legs (λ l q. omega (arith, value-small k l q h, only-less (isLong l) (value 1 (at k) l))) r)
+module _ (k : ℕ) (legs : List Leg) (r : All (Ranges 32) legs) (h : k < top) where
+  side-bound : (side : Leg → Bool) → sum (λ l. only (side l) (value 1 (at k) l)) legs ≤ 10000000000000000 * length legs
+  unfolding value
+  side-bound side =
+      sum-bound _ 10000000000000000 legs
+      (all-map legs (λ l q. omega (arith, worth-small k l q h, only-less (side l) (units l * intrinsic 1 k l))) r)
 
-  pub short-bound : shortAt 1 (at k) legs ≤ 10000000000000000 * length legs
-  unfolding shortAt
-  short-bound =
-      sum-bound (λ l. only (isShort l) (value 1 (at k) l)) 10000000000000000 legs
-      (all-map legs (λ l q. omega (arith, value-small k l q h, only-less (isShort l) (value 1 (at k) l))) r)
-
-  pub loss-bound : lossAt legs k ≤ 10000000000000000 * length legs
-  unfolding lossAt
-  loss-bound = omega (arith, short-bound)
+  loss-bound : lossAt legs k ≤ 10000000000000000 * length legs
+  unfolding lossAt shortAt
+  loss-bound = omega (arith, side-bound isShort)
 
   pub sides-small : length legs ≤ 256 → (longAt 1 (at k) legs ≤ 2560000000000000000) × (shortAt 1 (at k) legs ≤ 2560000000000000000)
-  sides-small n = (omega (arith, long-bound), omega (arith, short-bound))
+  unfolding longAt shortAt
+  sides-small n = (omega (arith, side-bound isLong), omega (arith, side-bound isShort))
 
--- ---- the strikes, and the margin
+-- ---- the margin
 
-pub all-place : (P : ℕ → Type 0) (k : ℕ) (xs : List ℕ) → P k → All P xs → All P (place k xs)
-unfolding place
-all-place P k [] p a = (p, tt)
-all-place P k (x ∷ xs) p a = go (ltb k x) (ltb x k) (all-place P k xs p (a .1))
-  where
-    go : (b c : Bool) → All P (place k xs) → All P (cond b (k ∷ x ∷ xs) (cond c (x ∷ place k xs) (x ∷ xs)))
-    go true c r = (p, a)
-    go false true r = (a .0, r)
-    go false false r = a
-
-pub strikes-below : (legs : List Leg) → All (Ranges 32) legs → All (λ k. k < 100000000) (strikesOf legs)
-unfolding strikesOf
-strikes-below [] r = tt
-strikes-below (l ∷ ls) r = all-place (λ k. k < 100000000) (l .strike) (strikesOf ls) (omega (arith, r .0 .strike)) (strikes-below ls (r .1))
-
-pub most-bound : {A : Type 0} (f : A → ℕ) (b : ℕ) (l : List A) → All (λ x. f x ≤ b) l → most f l ≤ b
+most-bound : {A : Type 0} (f : A → ℕ) (b : ℕ) (l : List A) → All (λ x. f x ≤ b) l → most f l ≤ b
 unfolding most
 most-bound f b [] a = omega arith
 most-bound f b (x ∷ xs) a = omega (arith, a .0, most-bound f b xs (a .1))
 
 pub margin-bound : (legs : List Leg) → All (Ranges 32) legs → marginOf legs ≤ 10000000000000000 * length legs
-unfolding marginOf
 margin-bound legs r =
-    most-bound (lossAt legs) (10000000000000000 * length legs) (strikesOf legs)
-    (all-map (strikesOf legs) (λ k h. loss-bound k legs r h) (strikes-below legs r))
+    rw (margin-legs legs)
+    (most-bound (λ l. lossAt legs (l .strike)) (10000000000000000 * length legs) legs
+    (all-map legs (λ l q. loss-bound (l .strike) legs r (omega (arith, q .strike))) r))
 
 -- ---- a group of a placement of at most 256 legs
 
@@ -104,11 +85,20 @@ module _ (legs : List Leg) (ranges : All (Ranges 32) legs) (few : length legs �
 -- ---- the same of a checked table
 
 module _ (xs : List ℕ) (p : Placed xs) where
-  pub table-few : length (legsOf xs) ≤ 256
-  table-few = omega (arith, length-legs xs, whole Placement (length xs) (p .whole) .1)
+  table-few : length (legsOf xs) ≤ 256
+  unfolding tableChecks
+  table-few = omega (arith, length-legs xs, whole Placement (length xs) (clear _ p .0) .1)
 
-  pub table-ranges : All (Ranges 32) (legsOf xs)
-  table-ranges = placement-ranges xs (p .fields)
+  table-ranges : All (Ranges 32) (legsOf xs)
+  unfolding tableChecks
+  table-ranges = placement-ranges xs (unclear (fieldChecks Placement xs) (clear _ p .1))
+
+  from-ranges : (i : ℕ) → i ≤ length xs / 32 → All (Ranges 32) (legsFrom xs i)
+  from-ranges zero h = rw (legs-all xs) table-ranges
+  from-ranges (suc i) h = rw add-one at ((rw (legs-step xs i (omega arith)) at (from-ranges i (omega arith))) .1)
+
+  pub leg-ranges : (i : ℕ) → i < length xs / 32 → Ranges 32 (legOf (chunkAt 32 xs i))
+  leg-ranges i h = (rw (legs-step xs i h) at (from-ranges i (omega arith))) .0
 
   module _ (g : ℕ) where
     pub group-ranges : All (Ranges 32) (groupOf g (legsOf xs))

@@ -1,18 +1,30 @@
-pub mod Rest
+-- what is promised of the definitions
 pub mod Bounds
-pub mod StrikeSums
-pub mod Front
 pub mod Cover
 pub mod RuleLaws
 pub mod Nets
 pub mod Merge
 pub mod Bench
-pub mod RuleFacts
-pub mod PairLaws
-pub mod FaultLaws
+pub mod Unique
+-- what these rest on
 pub mod Signed
+pub mod Placing
+pub mod StrikeSums
+pub mod Front
+pub mod Payoffs
+-- the steps of the code: the rule
+pub mod Folds
+pub mod SearchLaws
+pub mod TestLaws
+pub mod PairLaws
+pub mod FirstsLaws
+pub mod GatheredLaws
+pub mod FaultLaws
+-- the walk up the strikes
 pub mod Worths
 pub mod Ascending
 pub mod Walks
+pub mod Written
+pub mod WalkResults
+-- the calls
 pub mod Answers
-pub mod Unique

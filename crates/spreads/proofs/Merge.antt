@@ -1,8 +1,8 @@
 -- Joining two balanced groups never costs more than the two by themselves.
+use Prim.Native.Nat.{ℕ, _+_, _≤_}
 use mathlib.Core.Path.{_≡_, refl}
 use mathlib.Core.Bool.{Bool, true, false, _||_}
-use mathlib.Core.List.{List, _++_}
-use Prim.Native.Nat.{ℕ, _+_, _≤_}
+use mathlib.Core.List.{List}
 use native.Mathlib.Decide.{decLe}
 use native.Mathlib.Omega.{arith}
 use lib.Dec.{eqb}
@@ -10,14 +10,14 @@ use borrow.Author.Tests.{eqb-true}
 use Rattle.records.specs.Lists.{only, sum, keep}
 use Rattle.records.specs.Legs.{isLong, isShort}
 use Rattle.records.specs.declared.legs.Leg.{Leg}
-use Rattle.records.proofs.ListLaws.{every, sum-append, sum-keep, sum-lin}
+use Rattle.records.proofs.ListLaws.{every, sum-keep, sum-lin}
 use Rattle.spreads.specs.Prices.{value, longAt, shortAt, at}
 use Rattle.spreads.specs.Strikes.{marginOf}
 use Rattle.spreads.specs.Spreads.{groupOf, Spread}
 use Rattle.spreads.proofs.Cover.{cover, least}
 
 -- j is any list whose sums are those of a and b together
-pub merge : (g k : ℕ) (a b j : List Leg) → Spread g a → Spread k b → ((f : Leg → ℕ) → sum f j ≡ sum f a + sum f b)
+merge : (g k : ℕ) (a b j : List Leg) → Spread g a → Spread k b → ((f : Leg → ℕ) → sum f j ≡ sum f a + sum f b)
     → marginOf j ≤ marginOf a + marginOf b
 unfolding longAt shortAt
 merge g k a b j sa sb add =
@@ -35,9 +35,6 @@ merge g k a b j sa sb add =
             add (λ l. only (isShort l) (value 1 (at n) l)),
           ))
     ]
-
-pub merge-lists : (g k : ℕ) (a b : List Leg) → Spread g a → Spread k b → marginOf (a ++ b) ≤ marginOf a + marginOf b
-merge-lists g k a b sa sb = merge g k a b (a ++ b) sa sb (λ f. sum-append f a b)
 
 -- the legs of groups g and k taken together, in the placement's order
 unfoldable pub joined : ℕ → ℕ → List Leg → List Leg

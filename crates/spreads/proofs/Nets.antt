@@ -1,32 +1,23 @@
 -- The margin is the greatest of 0 and the worksheet's nets negated.
+use Prim.Native.Nat.{ℕ, suc, _-_}
 use mathlib.Core.Path.{_≡_, refl}
-use mathlib.Core.Bool.{Bool, true, false, cond}
+use mathlib.Core.Logic.{⊎-elim}
 use mathlib.Core.List.{List, [], _∷_, map}
-use Prim.Native.Nat.{ℕ, zero, suc, _-_}
 use native.Mathlib.Omega.{arith}
-use lib.Dec.{ltb}
-use lib.IntN.{ℤ, pos, negsuc, subℕ, _-ℤ_}
-use borrow.Author.Tests.{ltb-true, ltb-false}
+use lib.IntN.{ℤ, pos, negsuc, _-ℤ_}
 use Rattle.records.specs.Lists.{most}
 use Rattle.records.specs.declared.legs.Leg.{Leg}
 use Rattle.spreads.specs.Prices.{longAt, shortAt, at, net, lossAt}
 use Rattle.spreads.specs.Strikes.{strikesOf, marginOf, netsOf}
+use Rattle.spreads.proofs.Signed.{minus-cases}
 
 -- a net negated, or 0 where it is no loss
 abbrev pub lossOf : ℤ → ℕ
 lossOf (pos n) = 0
 lossOf (negsuc n) = suc n
 
-loss-sub : (a b : ℕ) → lossOf (subℕ a b) ≡ b - a
-loss-sub a b = go (ltb a b) refl
-  where
-    go : (t : Bool) → ltb a b ≡ t → lossOf (cond t (negsuc (b - suc a)) (pos (a - b))) ≡ b - a
-    go true e = omega (arith, ltb-true a b e)
-    go false e = omega (arith, ltb-false a b e)
-
 loss-minus : (a b : ℕ) → lossOf (pos a -ℤ pos b) ≡ b - a
-loss-minus a zero = omega arith
-loss-minus a (suc b) = loss-sub a (suc b)
+loss-minus a b = ⊎-elim (λ c. rw (c .1) (omega arith)) (λ c. rw (c .1) (omega arith)) (minus-cases a b)
 
 pub loss-net : (legs : List Leg) (k : ℕ) → lossOf (net legs k) ≡ lossAt legs k
 unfolding net lossAt

@@ -1,11 +1,11 @@
 -- Nothing of 6 to 13 is refused just where the legs are a spread.
+use Prim.Native.Nat.{ℕ}
 use mathlib.Core.Path.{_≡_, refl, sym, ap, _∙_}
-use mathlib.Core.Bool.{Bool, true, false, not, _&&_, and-eq-true-iff}
+use mathlib.Core.Bool.{true, false, not, and-eq-true-iff}
 use mathlib.Core.List.{List, [], _∷_}
-use Prim.Native.Nat.{ℕ, _≤_}
 use lib.Dec.{leb}
 use lib.ListN.{length}
-use borrow.Author.Tests.{eqb-true, eq-eqb, leb-true, le-leb}
+use borrow.Author.Tests.{eqb-true, eq-eqb, leb-true, le-leb, not-true}
 use Rattle.records.specs.Lists.{allb, All}
 use Rattle.records.specs.Dates.{within}
 use Rattle.records.specs.Order.{firstOf}
@@ -13,6 +13,7 @@ use Rattle.records.specs.declared.legs.Leg.{Leg}
 use Rattle.records.specs.declared.refusals.Fault.the-variants.{Nothing}
 use Rattle.records.proofs.ListLaws.{all-map, allb-all, all-allb}
 use Rattle.records.proofs.OrderLaws.{Pass, clear, unclear}
+use Rattle.records.proofs.TableLaws.{within-true}
 use Rattle.spreads.specs.Spreads.{oneOf, doubled, noneDoubled, Spread, spreadChecks}
 
 -- ---- each test and its fact
@@ -27,35 +28,25 @@ unfolding oneOf
 value-one field [] u a = refl
 value-one field (l ∷ ls) u a = all-allb _ ls (all-map ls (λ k q. eq-eqb (field k) (field l) (q ∙ sym (a .0))) (a .1))
 
-not-false : (b : Bool) → not b ≡ true → b ≡ false
-not-false true e = sym e
-not-false false e = refl
-
 none-series : (legs : List Leg) → noneDoubled legs ≡ true → All (λ a. All (λ b. doubled a b ≡ false) legs) legs
 unfolding noneDoubled
 none-series legs e =
-    all-map legs (λ a q. all-map legs (λ b r. not-false (doubled a b) r) (allb-all (λ b. not (doubled a b)) legs q))
+    all-map legs (λ a q. all-map legs (λ b r. not-true (doubled a b) r) (allb-all (λ b. not (doubled a b)) legs q))
     (allb-all (λ a. allb (λ b. not (doubled a b)) legs) legs e)
 
 series-none : (legs : List Leg) → All (λ a. All (λ b. doubled a b ≡ false) legs) legs → noneDoubled legs ≡ true
 unfolding noneDoubled
 series-none legs e = all-allb _ legs (all-map legs (λ a q. all-allb (λ b. not (doubled a b)) legs (all-map legs (λ b r. ap not r) q)) e)
 
-numbered-true : (g n : ℕ) → (within 1 32 g && leb 1 n) ≡ true → ((1 ≤ g) × (g ≤ 32)) × (1 ≤ n)
-numbered-true g n e =
-    let p = and-eq-true-iff (within 1 32 g) (leb 1 n) .0 e in
-    let q = and-eq-true-iff (leb 1 g) (leb g 32) .0 (p .0) in
-    ((leb-true 1 g (q .0), leb-true g 32 (q .1)), leb-true 1 n (p .1))
-
 -- ---- all of them
 
 pub pass-spread : (g : ℕ) (legs : List Leg) → Pass (spreadChecks g legs) → Spread g legs
 unfolding spreadChecks
 pass-spread g legs p =
-    let n = numbered-true g (length legs) (p .0) in
+    let n = and-eq-true-iff (within 1 32 g) (leb 1 (length legs)) .0 (p .0) in
     record {
-      numbered = n .0;
-      leg = n .1;
+      numbered = within-true 1 32 g (n .0);
+      leg = leb-true 1 (length legs) (n .1);
       underlying = one-value (λ l. l .underlying) legs (p .1 .0);
       style = one-value (λ l. l .style) legs (p .1 .1 .0);
       market = one-value (λ l. l .market) legs (p .1 .1 .1 .0);

@@ -1,8 +1,8 @@
 -- No two different outcomes meet a promise of this crate: the answer is one definition of the inputs, and so, with it, is
 -- the later content of each lent slice.
+use Prim.Native.Nat.{ℕ}
 use mathlib.Core.Path.{_≡_, sym, ap, _∙_}
 use mathlib.Core.List.{List}
-use Prim.Native.Nat.{ℕ}
 use lib.IntN.{ℤ}
 use lib.ListN.{length}
 use Rattle.records.specs.Tables.{legsOf}

@@ -12,6 +12,8 @@ use Rattle.spreads.specs.declared.facts.Sides.{Sides}
 use Rattle.spreads.specs.declared.facts.Lives.{Lives}
 use Rattle.spreads.specs.declared.facts.Facts.{Facts}
 
+-- ---- each part of the facts
+
 -- the first leg is kept, and of each later one whether it differs
 unfoldable pub withFirsts : Firsts → Leg → Firsts
 withFirsts f l =
@@ -35,12 +37,16 @@ withFirsts f l =
       markets = f .markets;
     })
 
+-- where the leg is of this right
 unfoldable pub withUnits : Sides → Bool → ℕ → Units → Sides
 withUnits s ofThis side u =
     record {
       long = cond (ofThis && eqb side 1) (plusUnits (s .long) u) (s .long);
       short = cond (ofThis && eqb side 2) (plusUnits (s .short) u) (s .short);
     }
+
+abbrev pub isBalanced : Sides → Bool
+isBalanced s = eqb (s .long .0) (s .short .0)
 
 -- of longs the earliest, of shorts the latest
 unfoldable pub withExpiry : Lives → ℕ → ℕ → Lives
@@ -50,13 +56,21 @@ withExpiry s side expiry =
       earliest = cond (eqb side 1) (min (s .earliest) expiry) (s .earliest);
     }
 
+-- ---- one leg more
+
+abbrev pub withRight : (Leg → Bool) → Sides → Leg → Sides
+withRight right s l = withUnits s (right l) (l .side) (unitsOf (l .contracts) (l .size))
+
+abbrev pub withLife : Lives → Leg → Lives
+withLife v l = withExpiry v (l .side) (l .expiry)
+
 unfoldable pub withLeg : Facts → Leg → Facts
 withLeg f l =
     record {
       firsts = withFirsts (f .firsts) l;
-      calls = withUnits (f .calls) (isCall l) (l .side) (unitsOf (l .contracts) (l .size));
-      puts = withUnits (f .puts) (isPut l) (l .side) (unitsOf (l .contracts) (l .size));
-      lives = withExpiry (f .lives) (l .side) (l .expiry);
+      calls = withRight isCall (f .calls) l;
+      puts = withRight isPut (f .puts) l;
+      lives = withLife (f .lives) l;
     }
 
 abbrev pub noFacts : Facts

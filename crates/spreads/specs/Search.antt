@@ -1,18 +1,18 @@
 -- How the search for a doubled series goes: the later leg by its place, and with it the earlier ones from the first on.
 use Prim.Native.Nat.{ℕ, zero, suc, _+_}
-use mathlib.Core.Bool.{Bool, true, false, _&&_, _||_, cond}
+use mathlib.Core.Bool.{Bool, _&&_, _||_, cond}
 use mathlib.Core.List.{List, [], _∷_, map}
 use lib.Dec.{eqb}
 use Rattle.records.specs.Chunks.{chunkAt, chunksFrom}
-use Rattle.records.specs.Legs.{isLong, isShort, legOf}
+use Rattle.records.specs.Legs.{legOf}
 use Rattle.records.specs.declared.legs.Leg.{Leg}
-use Rattle.spreads.specs.Spreads.{sameSeries}
+use Rattle.spreads.specs.Spreads.{doubled}
 use Rattle.spreads.specs.declared.pairs.Pair.{Pair}
 use Rattle.spreads.specs.declared.pairs.Pair.the-variants.{At, Nothing}
 
--- two legs, the second of group g, of one series and of two sides
+-- an earlier leg of group g, with a later one a series both long and short
 unfoldable pub clash : ℕ → Leg → Leg → Bool
-clash g a b = eqb (b .group) g && (sameSeries a b && (isLong a && isShort b || isLong b && isShort a))
+clash g later earlier = eqb (earlier .group) g && (doubled earlier later || doubled later earlier)
 
 -- the legs of the places from i up to j
 abbrev pub legsBetween : List ℕ → ℕ → ℕ → List Leg
@@ -30,7 +30,3 @@ firstPair g xs j (suc m) =
     cond (eqb (legOf (chunkAt 32 xs j) .group) g)
     (pairWith g (legOf (chunkAt 32 xs j)) j 0 (legsBetween xs 0 j) (firstPair g xs (j + 1) m))
     (firstPair g xs (j + 1) m)
-
-abbrev pub isFound : Pair → Bool
-isFound (At j i) = true
-isFound Nothing = false

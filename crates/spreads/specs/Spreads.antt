@@ -1,8 +1,8 @@
 -- 'The legs of group g are the placement records with that group. They are a spread when all hold'.
+use Prim.Native.Nat.{ℕ, _≤_}
 use mathlib.Core.Path.{_≡_}
 use mathlib.Core.Bool.{Bool, true, false, not, _&&_, cond}
 use mathlib.Core.List.{List, [], _∷_}
-use Prim.Native.Nat.{ℕ, _≤_}
 use lib.Dec.{leb, eqb}
 use lib.ListN.{length}
 use Rattle.records.specs.Lists.{only, sum, most, least, keep, allb, All}

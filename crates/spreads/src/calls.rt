@@ -97,6 +97,16 @@ fn groups_fault(placement: &[u8], n: usize) -> Fault
     Fault::Nothing
 }
 
+// 1 and 4 over the whole table, then 6 to 13 of groups 1 to n.
+fn checked_groups(placement: &[u8], n: usize) -> Fault
+    ensures { λ r. ⌜ r ≡ firstOf (groupsChecks (now (placement .entry)) n) ⌝ }
+{
+    match records::check_table(Kind::Placement, placement) {
+        Counted::Refused(refusal) => Fault::Is(refusal),
+        Counted::Records(_) => groups_fault(placement, n),
+    }
+}
+
 // The margin of group g at index g - 1, for groups 1 to n.
 fn fill_margins(placement: &[u8], n: usize, out: &mut [i64])
     requires { ⌜ Placed (now placement) ⌝ }
@@ -129,15 +139,5 @@ pub fn margins(placement: &[u8], n: usize, out: &mut [i64]) -> Listed
                 place: n,
             })
         }
-    }
-}
-
-// 1 and 4 over the whole table, then 6 to 13 of groups 1 to n.
-fn checked_groups(placement: &[u8], n: usize) -> Fault
-    ensures { λ r. ⌜ r ≡ firstOf (groupsChecks (now (placement .entry)) n) ⌝ }
-{
-    match records::check_table(Kind::Placement, placement) {
-        Counted::Refused(refusal) => Fault::Is(refusal),
-        Counted::Records(_) => groups_fault(placement, n),
     }
 }

@@ -1,8 +1,12 @@
 // 'The search for a doubled series ends at the first pair found.'
 ghost use mathlib.Core.Path.{_≡_};
+ghost use mathlib.Core.Bool.{not};
 ghost use Prim.Native.Nat.{_/_};
 ghost use lib.ListN.{length};
-ghost use Rattle.spreads.specs.Search.{clash, firstPair, isFound};
+ghost use Rattle.records.specs.Tables.{legsOf};
+ghost use Rattle.spreads.specs.Spreads.{groupOf, doubled, noneDoubled};
+ghost use Rattle.spreads.specs.Search.{clash, firstPair};
+use crate::legs::leg_at;
 use records::Leg;
 use records::RECORD_BYTES;
 
@@ -12,13 +16,20 @@ pub enum Pair {
     Nothing,
 }
 
-// Whether two legs, of which the first is known to be of group g, are both of it, of one series and of two sides.
-fn is_clash(g: usize, a: Leg, b: Leg) -> bool
-    ensures { λ r. ⌜ r ≡ clash g a b ⌝ }
+// Whether one series is long in a and short in b.
+fn long_and_short(a: Leg, b: Leg) -> bool
+    ensures { λ r. ⌜ r ≡ doubled a b ⌝ }
 {
     let same = (a.right == b.right) & (a.strike == b.strike) & (a.expiry == b.expiry);
-    let sides = ((a.side == 1) & (b.side == 2)) | ((b.side == 1) & (a.side == 2));
-    (b.group as usize == g) & (same & sides)
+    (a.side == 1) & (b.side == 2) & same
+}
+
+// Whether a leg of group g is of one series with an earlier leg of it, on the other side.
+fn is_clash(g: usize, later: Leg, earlier: Leg) -> bool
+    ensures { λ r. ⌜ r ≡ clash g later earlier ⌝ }
+{
+    (earlier.group as usize == g)
+        & (long_and_short(earlier, later) | long_and_short(later, earlier))
 }
 
 // The later leg is taken in the outer loop and the earlier ones in the inner loop.
@@ -31,21 +42,15 @@ fn first_doubled(placement: &[u8], g: usize) -> Pair
         if n <= j {
             break 'pairs Pair::Nothing;
         }
-        let at = RECORD_BYTES * j;
-        let end = at + RECORD_BYTES;
-        let later = records::leg_of(&placement[at..end]);
-        let mut i: usize = 0;
-        if later.group as usize != g {
-            i = j;
-        }
-        while i < j {
-            let from = RECORD_BYTES * i;
-            let to = from + RECORD_BYTES;
-            let earlier = records::leg_of(&placement[from..to]);
-            if is_clash(g, later, earlier) {
-                break 'pairs Pair::At(j, i);
+        let later = leg_at(placement, j);
+        if later.group as usize == g {
+            let mut i: usize = 0;
+            while i < j {
+                if is_clash(g, later, leg_at(placement, i)) {
+                    break 'pairs Pair::At(j, i);
+                }
+                i += 1;
             }
-            i += 1;
         }
         j += 1;
     }
@@ -53,7 +58,7 @@ fn first_doubled(placement: &[u8], g: usize) -> Pair
 
 // Whether a series of group g is both long and short.
 pub(crate) fn is_doubled(placement: &[u8], g: usize) -> bool
-    ensures { λ r. ⌜ r ≡ isFound (firstPair g (now (placement .entry)) 0 (length (now (placement .entry)) / 32)) ⌝ }
+    ensures { λ r. ⌜ r ≡ not (noneDoubled (groupOf g (legsOf (now (placement .entry))))) ⌝ }
 {
     match first_doubled(placement, g) {
         Pair::At(_, _) => true,

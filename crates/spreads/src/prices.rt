@@ -6,7 +6,8 @@ ghost use Rattle.records.specs.Legs.{units};
 ghost use Rattle.records.specs.Tables.{legsOf};
 ghost use Rattle.spreads.specs.Prices.{intrinsic};
 ghost use Rattle.spreads.specs.Spreads.{groupOf};
-ghost use Rattle.spreads.specs.Steps.{Placed, withWorth, worthAt};
+ghost use Rattle.spreads.specs.Steps.{Placed, top, withWorth, worthAt};
+use crate::legs::leg_at;
 use records::Leg;
 use records::RECORD_BYTES;
 
@@ -71,16 +72,14 @@ impl Worth {
 // What group g of a checked placement is worth at a price.
 pub(crate) fn worth_at(placement: &[u8], g: usize, price: u32) -> Worth
     requires { ⌜ Placed (now placement) ⌝ }
-    requires { ⌜ price < 100000000 ⌝ }
+    requires { ⌜ price < top ⌝ }
     ensures { λ r. ⌜ r ≡ worthAt price (groupOf g (legsOf (now (placement .entry)))) ⌝ }
 {
     let n = placement.len() / RECORD_BYTES;
     let mut worth = Worth { long: 0, short: 0 };
     let mut i: usize = 0;
     while i < n {
-        let at = RECORD_BYTES * i;
-        let end = at + RECORD_BYTES;
-        let leg = records::leg_of(&placement[at..end]);
+        let leg = leg_at(placement, i);
         if leg.group as usize == g {
             worth = worth.with_leg(leg, price);
         }

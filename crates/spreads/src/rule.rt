@@ -30,10 +30,10 @@ fn first_broken(in_reach: bool, facts: Facts, doubled: bool) -> u8
     if doubled {
         return 10;
     }
-    if facts.calls.long.number() != facts.calls.short.number() {
+    if !facts.calls.balanced() {
         return 11;
     }
-    if facts.puts.long.number() != facts.puts.short.number() {
+    if !facts.puts.balanced() {
         return 12;
     }
     if facts.lives.earliest < facts.lives.latest {

@@ -1,7 +1,7 @@
 use mathlib.Core.Path.{sym, _∙_}
+use borrow.Author.Needs.{needs}
 use Rattle.spreads.specs.Calls.{groupChecks}
 use Rattle.spreads.proofs.Answers.{table-placed, table-then, table-stop}
-use borrow.Author.Needs.{needs}
 use Rattle.spreads.proofs.calls.checked_group.Statement.{statement}
 use Rattle.spreads.proofs.calls.checked_group.Tie as tie
 

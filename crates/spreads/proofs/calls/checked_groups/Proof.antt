@@ -1,7 +1,7 @@
 use mathlib.Core.Path.{sym, _∙_}
+use borrow.Author.Needs.{needs}
 use Rattle.spreads.specs.Calls.{groupsChecks}
 use Rattle.spreads.proofs.Answers.{table-placed, table-then, table-stop}
-use borrow.Author.Needs.{needs}
 use Rattle.spreads.proofs.calls.checked_groups.Statement.{statement}
 use Rattle.spreads.proofs.calls.checked_groups.Tie as tie
 

@@ -1,12 +1,12 @@
-use borrow.Author.Needs.{needs}
 use Prim.Native.Nat.{_-_, _≤_}
-use mathlib.Core.Path.{_≡_, refl, sym, _∙_}
+use mathlib.Core.Path.{_≡_, sym, _∙_}
 use native.Mathlib.Omega.{arith}
+use borrow.Author.Needs.{needs}
 use Rattle.records.specs.Order.{firstOf, groups}
 use Rattle.records.specs.Tables.{legsOf}
 use Rattle.records.specs.declared.refusals.Fault.the-variants.{Nothing}
+use Rattle.records.proofs.OrderLaws.{groups-none, groups-more, groups-stop}
 use Rattle.spreads.specs.Spreads.{groupOf, spreadChecks}
-use Rattle.records.proofs.OrderLaws.{groups-more, groups-stop}
 use Rattle.spreads.proofs.calls.groups_fault.Statement.{statement}
 use Rattle.spreads.proofs.calls.groups_fault.Tie as tie
 
@@ -15,10 +15,6 @@ Inv-loop placement n k₀ k = (k ≤ n) × (firstOf (groups k (λ g. spreadCheck
 
 abbrev μ-loop : tie.MeasureT-loop
 μ-loop placement n k₀ k = n - k
-
-loop-holds : tie.Need-loop-holds Inv-loop μ-loop
-unfolding groups firstOf
-loop-holds c = (omega arith, refl)
 
 returns : tie.Need-returns Inv-loop μ-loop
 returns c =
@@ -42,7 +38,7 @@ groups-fault-spec =
     (tie.spec
     Inv-loop
     μ-loop
-    loop-holds
+    (λ c. (omega arith, groups-none _))
     (λ c. omega arith)
     (λ c κs. search needs)
     (λ c. search needs)

@@ -3,10 +3,10 @@ use native.Mathlib.Omega.{arith}
 use lib.IntN.{pos}
 use mir.Syntax.{w64}
 use mir.Facts.{toZ-pos}
+use borrow.Author.Needs.{needs}
 use Rattle.spreads.specs.Calls.{groupChecks, marginCall}
 use Rattle.spreads.specs.declared.calls.Due.the-variants.{Mills}
 use Rattle.spreads.proofs.Answers.{placed-first}
-use borrow.Author.Needs.{needs}
 use Rattle.spreads.proofs.calls.margin.Statement.{statement}
 use Rattle.spreads.proofs.calls.margin.Tie as tie
 

@@ -1,7 +1,9 @@
 use mathlib.Core.Path.{refl, sym, _∙_}
-use Rattle.spreads.specs.Calls.{groupChecks}
-use Rattle.spreads.proofs.Answers.{placed-first, sheet-then, sheet-stop}
 use borrow.Author.Needs.{needs}
+use Rattle.records.proofs.OrderLaws.{first-then}
+use Rattle.spreads.specs.Calls.{groupChecks, listChecks, worksheetCall}
+use Rattle.spreads.specs.Steps.{listedIn}
+use Rattle.spreads.proofs.Answers.{placed-first, list-stop}
 use Rattle.spreads.proofs.calls.worksheet.Statement.{statement}
 use Rattle.spreads.proofs.calls.worksheet.Tie as tie
 
@@ -12,14 +14,16 @@ list-strikes-requires c κs =
     placed-first _ _ (sym (t .before .before .checked-group .ensures) ∙ t .enum-told .given .1)
 
 returns : tie.Need-returns
+unfolding worksheetCall listChecks
 returns c =
-    (sym (sheet-stop _ _ _ _ _ (sym (c .before .before .before .checked-group .ensures) ∙ c .before .refusal .given .1)), (refl, refl))
+    (list-stop _ _ _ _ (sym (c .before .before .before .checked-group .ensures) ∙ c .before .refusal .given .1), (refl, refl))
 
 returns-2 : tie.Need-returns-2
+unfolding worksheetCall listedIn
 returns-2 c =
     let t = c .before .before .before in
     let u = t .before .before .before in
-    (sheet-then _ _ _ _ _ (sym (u .before .before .checked-group .ensures) ∙ u .enum-told .given .1) (t .list-strikes .ensures .0), t .list-strikes .ensures .1)
+    (rw (first-then _ _ (sym (u .before .before .checked-group .ensures) ∙ u .enum-told .given .1)) (t .list-strikes .ensures .0), t .list-strikes .ensures .1)
 
 pub worksheet-spec : {M : Type 1} → statement M
 worksheet-spec =

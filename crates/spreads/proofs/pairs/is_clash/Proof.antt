@@ -1,12 +1,11 @@
 use borrow.Author.Needs.{needs}
 use Rattle.spreads.specs.Search.{clash}
-use Rattle.spreads.specs.Spreads.{sameSeries}
 use Rattle.spreads.proofs.pairs.is_clash.Statement.{statement}
 use Rattle.spreads.proofs.pairs.is_clash.Tie as tie
 
 returns : tie.Need-returns
-unfolding clash sameSeries
-returns c = search needs
+unfolding clash
+returns c = rw (c .before .long-and-short .ensures, c .long-and-short2 .ensures)
 
 pub is-clash-spec : {M : Type 1} → statement M
-is-clash-spec = tie.close (tie.spec (λ c. search needs) returns)
+is-clash-spec = tie.close (tie.spec (λ c. search needs) (λ c κs. search needs) (λ c κs. search needs) returns)

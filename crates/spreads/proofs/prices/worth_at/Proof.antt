@@ -1,39 +1,37 @@
-use borrow.Author.Needs.{needs}
-use Prim.Native.Nat.{_-_, _/_, _≤_}
-use mathlib.Core.Path.{_≡_, refl, _∙_}
+use Prim.Native.Nat.{_-_}
+use mathlib.Core.Path.{refl, _∙_}
 use mathlib.Core.Logic.{⊎-elim}
 use native.Mathlib.Omega.{arith}
-use lib.ListN.{length}
-use Rattle.spreads.proofs.Worths.{Worths, worths-none, worths-in, worths-out, worths-done, worths-room}
+use Rattle.spreads.specs.Steps.{withWorth, noWorth, worthAt}
+use Rattle.spreads.proofs.Folds.{Folding, fold-none, fold-in, fold-out, fold-done}
+use Rattle.spreads.proofs.Worths.{worth-room}
 use Rattle.spreads.proofs.prices.worth_at.Statement.{statement}
 use Rattle.spreads.proofs.prices.worth_at.Tie as tie
 
 abbrev Inv-loop : tie.InvT-loop
-Inv-loop placement g price n worth₀ i₀ worth i = (n ≡ length placement / 32) × (i ≤ n) × Worths g placement price worth i
+Inv-loop placement g price n worth₀ i₀ worth i = Folding (withWorth price) noWorth g placement n i worth
 
 abbrev μ-loop : tie.MeasureT-loop
 μ-loop placement g price n worth₀ i₀ worth i = n - i
 
-loop-holds : tie.Need-loop-holds Inv-loop μ-loop
-loop-holds c = (refl, omega arith, worths-none _ _ _ (c .before .pre .0) _ refl)
-
 with-leg-requires : tie.Need-with-leg-requires Inv-loop μ-loop
 with-leg-requires c κs =
-    let q = c .before .before .before .before .before in
-    let t = q .before .before .pre in
-    worths-room _ _ _ _ _ _ (omega arith) (c .before .before .leg-of .ensures) (q .loop .inv .2) (t .0) (t .1) (c .if1 .taken)
+    let t = c .before .before in
+    let s = t .before .before .before .before .pre in
+    worth-room (t .before .before .loop .inv) (s .0) (s .1) (t .before .loop-test .taken) (t .leg-at .ensures)
 
 loop-again : tie.Need-loop-again Inv-loop μ-loop
 loop-again c =
-    let q = c .before .before .before .before .before in
-    let e = c .before .before .leg-of .ensures in
+    let t = c .before .before in
+    let inv = t .before .before .loop .inv in
     ⊎-elim
-    (λ w. (refl, omega arith, worths-in _ _ _ _ _ _ (omega arith) e (q .loop .inv .2) _ (w .0 .taken) (w .2 ∙ w .1 .ensures)))
-    (λ w. (refl, omega arith, worths-out _ _ _ _ _ _ (omega arith) e (q .loop .inv .2) _ (w .0 .left) (w .1)))
+    (λ w. fold-in inv (t .before .loop-test .taken) (t .leg-at .ensures) (w .0 .taken) (w .2 ∙ w .1 .ensures))
+    (λ w. fold-out inv (t .before .loop-test .taken) (t .leg-at .ensures) (w .0 .left) (w .1))
     (c .if1 .came)
 
 returns : tie.Need-returns Inv-loop μ-loop
-returns c = worths-done _ _ _ _ _ (omega arith) (c .before .loop .inv .2)
+unfolding worthAt
+returns c = fold-done (c .before .loop .inv) (c .loop-test .left)
 
 pub worth-at-spec : {M : Type 1} → statement M
 worth-at-spec =
@@ -41,13 +39,8 @@ worth-at-spec =
     (tie.spec
     Inv-loop
     μ-loop
-    loop-holds
-    (λ c. omega arith)
-    (λ c. omega arith)
-    (λ c. omega arith)
-    (λ c. omega arith)
-    (λ c. omega arith)
-    (λ c κs. search needs)
+    (λ c. fold-none refl)
+    (λ c κs. omega arith)
     (λ c. omega arith)
     with-leg-requires
     (λ c. omega arith)

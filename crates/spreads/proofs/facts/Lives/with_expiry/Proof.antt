@@ -1,5 +1,5 @@
-use borrow.Author.Tests.{ne-eqb}
 use native.Mathlib.Nat.{le-of-lt, min-eq-left, min-eq-right, max-eq-left, max-eq-right}
+use borrow.Author.Tests.{ne-eqb}
 use Rattle.spreads.specs.Gathered.{withExpiry}
 use Rattle.spreads.proofs.facts.Lives.with_expiry.Statement.{statement}
 use Rattle.spreads.proofs.facts.Lives.with_expiry.Tie as tie

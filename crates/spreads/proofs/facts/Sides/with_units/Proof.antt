@@ -1,20 +1,30 @@
+use mathlib.Core.Path.{_≡_}
+use mathlib.Core.Bool.{true}
 use borrow.Author.Needs.{needs}
-use borrow.Author.Tests.{not-true, not-false}
-use Rattle.spreads.proofs.RuleFacts.{units-other, units-long, units-short, units-none}
+use borrow.Author.Tests.{ne-eqb, not-true, not-false}
+use Rattle.spreads.specs.Gathered.{withUnits}
 use Rattle.spreads.proofs.facts.Sides.with_units.Statement.{statement}
 use Rattle.spreads.proofs.facts.Sides.with_units.Tie as tie
 
+-- past the first test the leg is of this right
+of-this : (c : tie.Else1) → c .before .args .of-this ≡ true
+of-this c = not-false (c .before .args .of-this) (c .if1 .left)
+
 returns : tie.Need-returns
-returns c = units-other _ _ _ _ (not-true _ (c .if1 .taken))
+unfolding withUnits
+returns c = simp (not-true (c .before .args .of-this) (c .if1 .taken))
 
 returns-2 : tie.Need-returns-2
-returns-2 c = rw (c .plus .ensures) (units-long _ _ _ _ (not-false _ (c .before .before .if1 .left)) (c .before .if2 .taken))
+unfolding withUnits
+returns-2 c = rw (c .plus .ensures, of-this (c .before .before), c .before .if2 .taken)
 
 returns-3 : tie.Need-returns-3
-returns-3 c = rw (c .plus2 .ensures) (units-short _ _ _ _ (not-false _ (c .before .before .before .if1 .left)) (c .before .if3 .taken))
+unfolding withUnits
+returns-3 c = rw (c .plus2 .ensures, of-this (c .before .before .before), c .before .if3 .taken)
 
 returns-4 : tie.Need-returns-4
-returns-4 c = units-none _ _ _ _ (not-false _ (c .before .before .if1 .left)) (c .before .if2 .left) (c .if3 .left)
+unfolding withUnits
+returns-4 c = simp (of-this (c .before .before), ne-eqb _ _ (c .before .if2 .left), ne-eqb _ _ (c .if3 .left))
 
 pub with-units-spec : {M : Type 1} → statement M
 with-units-spec =

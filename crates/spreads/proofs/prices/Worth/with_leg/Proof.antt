@@ -1,44 +1,31 @@
-use mathlib.Core.Path.{_≡_}
 use Prim.Native.Nat.{_*_}
+use mathlib.Core.Path.{_≡_}
+use native.Mathlib.Nat.{add-zero}
 use native.Mathlib.Omega.{arith}
+use borrow.Author.Needs.{needs}
+use borrow.Author.Tests.{ne-eqb}
 use Rattle.records.specs.Legs.{units}
 use Rattle.spreads.specs.Prices.{intrinsic}
-use Rattle.spreads.proofs.Worths.{long-leg, short-leg, no-leg}
-use borrow.Author.Needs.{needs}
+use Rattle.spreads.specs.Steps.{withWorth}
 use Rattle.spreads.proofs.prices.Worth.with_leg.Statement.{statement}
 use Rattle.spreads.proofs.prices.Worth.with_leg.Tie as tie
 
 -- the product is what the leg is worth
 mills : (c : tie.After-intrinsic-at)
-    → c .before .number .result * c .intrinsic-at .result ≡ units (c .before .before .before .args .leg) * intrinsic 1 (c .before .before .before .args .price) (c .before .before .before .args .leg)
+    → let a = c .before .before .before .args in c .before .number .result * c .intrinsic-at .result ≡ units (a .leg) * intrinsic 1 (a .price) (a .leg)
 mills c = rw (c .before .number .ensures, c .before .before .units .ensures, c .intrinsic-at .ensures)
 
-mul-mills : tie.Need-mul-mills
-mul-mills c = rw (mills c) (omega arith)
-
-add-self : tie.Need-add-self
-add-self c = rw (mills (c .before .before .before)) (omega arith)
-
 returns : tie.Need-returns
-returns c =
-    let t = c .before .before .before in
-    let a = t .before .before .before .args in
-    long-leg (a .price) (a .self) (a .leg) _ (mills t) (c .before .if1 .taken)
-
-add-self-2 : tie.Need-add-self-2
-add-self-2 c = rw (mills (c .before .before .before .before .before)) (omega arith)
+unfolding withWorth
+returns c = rw (mills (c .before .before .before), c .before .if1 .taken, add-zero)
 
 returns-2 : tie.Need-returns-2
-returns-2 c =
-    let t = c .before .before .before .before .before in
-    let a = t .before .before .before .args in
-    short-leg (a .price) (a .self) (a .leg) _ (mills t) (c .before .if2 .taken)
+unfolding withWorth
+returns-2 c = rw (mills (c .before .before .before .before .before), c .before .if2 .taken, add-zero)
 
 returns-3 : tie.Need-returns-3
-returns-3 c =
-    let t = c .before .before .before .before in
-    let a = t .before .before .before .args in
-    no-leg (a .price) (a .self) (a .leg) _ (mills t) (c .before .before .if1 .left) (c .if2 .left)
+unfolding withWorth
+returns-3 c = simp (ne-eqb _ _ (c .before .before .if1 .left), ne-eqb _ _ (c .if2 .left), add-zero)
 
 pub with-leg-spec : {M : Type 1} → statement M
 with-leg-spec =
@@ -47,9 +34,9 @@ with-leg-spec =
     (λ c κs. search needs)
     (λ c κs. search needs)
     (λ c κs. search needs)
-    mul-mills
-    add-self
+    (λ c. rw (mills c) (omega arith))
+    (λ c. rw (mills (c .before .before .before)) (omega arith))
     returns
-    add-self-2
+    (λ c. rw (mills (c .before .before .before .before .before)) (omega arith))
     returns-2
     returns-3)
