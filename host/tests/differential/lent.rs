@@ -2,6 +2,8 @@
 
 use std::fmt::Debug;
 
+use usm::ffi::Answer;
+
 const GUARD: usize = 40;
 
 /// A buffer to lend, between two guards.
@@ -29,25 +31,13 @@ impl<T: Copy + From<u8> + PartialEq + Debug> Lent<T> {
     }
 }
 
-/// Four numbers for an answer, between guards, none of which an answer ever holds.
-pub struct Answer {
-    numbers: [u64; 6],
-}
-
+/// What no answer ever holds.
 const UNWRITTEN: u64 = 0xFEED_FACE_CAFE_BEEF;
 
-impl Answer {
-    pub fn unwritten() -> Answer {
-        Answer { numbers: [UNWRITTEN; 6] }
-    }
-
-    pub fn pointer(&mut self) -> *mut u64 {
-        self.numbers[1..5].as_mut_ptr()
-    }
-
-    /// The four numbers, if the guards stayed.
-    pub fn numbers(&self) -> Option<[u64; 4]> {
-        let [before, numbers @ .., behind] = self.numbers;
-        (before == UNWRITTEN && behind == UNWRITTEN).then_some(numbers)
-    }
+/// The four numbers that a call makes its answer, if the guards around them stayed.
+pub fn answer_of(call: impl FnOnce(&mut Answer)) -> Option<Answer> {
+    let mut numbers = [UNWRITTEN; 6];
+    call((&mut numbers[1..5]).try_into().expect("four numbers"));
+    let [before, answer @ .., behind] = numbers;
+    (before == UNWRITTEN && behind == UNWRITTEN).then_some(answer)
 }
