@@ -39,6 +39,11 @@ impl Table {
             Table::Claims => MOST_CLAIMS,
         }
     }
+
+    /// The bytes of the longest such table.
+    pub fn most_bytes(self) -> usize {
+        self.most_records() * RECORD_BYTES
+    }
 }
 
 #[derive(Clone, Copy, Debug, PartialEq, Eq, Hash)]

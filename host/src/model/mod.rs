@@ -75,13 +75,12 @@ pub fn read_file(
     let tables = parts.tables();
     tables.decode()?;
     let lent = [holdings, placement, claims];
-    let found = [tables.holdings, tables.placement, tables.claims];
-    for ((which, room), records) in Table::ALL.iter().zip(&lent).zip(&found) {
+    for (room, (which, records)) in lent.iter().zip(tables.in_order()) {
         if room.len() < records.len() {
             return Err(Refusal::new(17, which.number(), records.len() as u64));
         }
     }
-    for (room, records) in lent.into_iter().zip(&found) {
+    for (room, (_, records)) in lent.into_iter().zip(tables.in_order()) {
         room[..records.len()].copy_from_slice(records);
     }
     Ok(RecordCounts {
