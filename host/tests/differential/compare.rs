@@ -4,10 +4,9 @@
 use std::fmt::Display;
 
 use usm::ffi::{self, Answer, LINE_BYTES};
-use usm::{model, Refusal, Table, RECORD_BYTES};
+use usm::{model, Refusal, Table, Tables, RECORD_BYTES};
 
 use crate::lent::{answer_of, Lent};
-use crate::sheets::Tables;
 
 /// The four numbers a result stands for.
 fn numbers<T: Copy>(result: &Result<T, Refusal>, of_success: impl Fn(T) -> [u64; 3]) -> Answer {
@@ -132,50 +131,4 @@ pub fn file_line(case: &dyn Display, file: &[u8]) {
     assert!(line.stayed_past(length), "{case}: usm_file_line wrote past its line");
     let found = String::from_utf8_lossy(&line.slice()[..length]).into_owned();
     assert_eq!(found, expected, "{case}: usm_file_line: library (left) and model (right) differ");
-}
-
-/// The safe wrapper answers as the model does, too.
-pub fn wrapper(case: &dyn Display, tables: &Tables, file: &[u8], g: u64) {
-    let Tables { holdings, placement, claims } = tables;
-    assert_eq!(
-        usm::check_table(Table::Placement, placement),
-        model::check_table(Table::Placement, placement),
-        "{case}: check_table"
-    );
-    assert_eq!(usm::margin(placement, g), model::margin(placement, g), "{case}: margin {g}");
-    let (mut ours, mut theirs) = ([-1; 32], [-1; 32]);
-    assert_eq!(
-        usm::margins(placement, g, &mut ours),
-        model::margins(placement, g, &mut theirs),
-        "{case}: margins {g}"
-    );
-    assert_eq!(ours, theirs, "{case}: margins {g}");
-    let (mut strikes, mut nets) = ([[1; 8]; 2], [[-1; 8]; 2]);
-    let [strikes_here, strikes_there] = &mut strikes;
-    let [nets_here, nets_there] = &mut nets;
-    assert_eq!(
-        usm::worksheet(placement, g, strikes_here, nets_here),
-        model::worksheet(placement, g, strikes_there, nets_there),
-        "{case}: worksheet {g}"
-    );
-    assert_eq!((strikes[0], nets[0]), (strikes[1], nets[1]), "{case}: worksheet {g}");
-    let verdict = model::check_sheet(holdings, placement, claims);
-    assert_eq!(usm::check_sheet(holdings, placement, claims), verdict, "{case}: check_sheet");
-    assert_eq!(usm::check_file(file), model::check_file(file), "{case}: check_file");
-    assert_eq!(usm::file_line(file), model::file_line(file), "{case}: file_line");
-    let (mut ours, mut theirs) = (vec![1; usm::LONGEST_FILE], vec![1; usm::LONGEST_FILE]);
-    assert_eq!(
-        usm::write_file(holdings, placement, claims, &mut ours),
-        model::write_file(holdings, placement, claims, &mut theirs),
-        "{case}: write_file"
-    );
-    assert!(ours == theirs, "{case}: write_file");
-    let mut rooms = [[[1; 200]; 3]; 2];
-    let [[h, p, c], [other_h, other_p, other_c]] = &mut rooms;
-    assert_eq!(
-        usm::read_file(file, h, p, c),
-        model::read_file(file, other_h, other_p, other_c),
-        "{case}: read_file"
-    );
-    assert!(rooms[0] == rooms[1], "{case}: read_file");
 }

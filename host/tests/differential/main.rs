@@ -6,21 +6,27 @@
 
 mod compare;
 mod faults;
+mod fields;
 mod files;
 mod laws;
 mod lent;
 mod random;
 mod sheets;
 mod shortness;
+mod spreads;
 mod worlds;
+mod wrapper;
 
 use std::fmt;
 
 use random::Random;
-use sheets::Tables;
+use usm::{Tables, RECORD_BYTES};
 
 const CASES: u64 = 100_000;
 const SEED: u64 = 1;
+
+/// Every answer but 2, which tables cannot bring about: their files are sealed.
+const ALL_BUT_DAMAGE: [usize; 17] = [0, 1, 3, 4, 5, 6, 7, 8, 9, 10, 11, 12, 13, 14, 15, 16, 17];
 
 /// One case of a family, by which it can be tried again.
 struct Case {
@@ -70,9 +76,9 @@ fn run(family: &'static str, percent: u64, wanted: &[usize], one: impl Fn(&Case,
 
 /// All calls that take tables, then those on the file they make.
 fn try_tables(case: &Case, random: &mut Random, tables: &Tables, tally: &mut Tally) {
-    let claims = tables.claims.len() / 32;
-    for (kind, table) in [(1, &tables.holdings), (2, &tables.placement), (3, &tables.claims)] {
-        tally[compare::check_table(case, kind, table) as usize] += 1;
+    let claims = tables.claims.len() / RECORD_BYTES;
+    for (which, table) in tables.in_order() {
+        tally[compare::check_table(case, which.number(), table) as usize] += 1;
     }
     let odd_kind = random.pick(&[0, 1, 2, 3, 4, 257, u64::MAX]);
     compare::check_table(case, odd_kind, &tables.holdings);
@@ -91,14 +97,14 @@ fn try_tables(case: &Case, random: &mut Random, tables: &Tables, tally: &mut Tal
     tally[compare::write_file(case, tables, random.room(file.len())) as usize] += 1;
     try_file(case, random, &file, tables, tally);
     if case.index % 16 == 0 {
-        compare::wrapper(case, tables, &file, g);
+        wrapper::answers_alike(case, tables, &file, g);
     }
 }
 
 /// All calls that take a file; `tables` only tells how much room is of interest.
 fn try_file(case: &Case, random: &mut Random, file: &[u8], tables: &Tables, tally: &mut Tally) {
     tally[compare::check_file(case, file) as usize] += 1;
-    let needed = [&tables.holdings, &tables.placement, &tables.claims].map(Vec::len);
+    let needed = tables.in_order().map(|(_, table)| table.len());
     let rooms = if random.one_in(2) {
         needed.map(|length| length + 9)
     } else {
@@ -111,7 +117,7 @@ fn try_file(case: &Case, random: &mut Random, file: &[u8], tables: &Tables, tall
 /// How many distinct strikes a group has, for the choice of room only.
 fn strikes_of(placement: &[u8], g: u64) -> usize {
     let mut strikes: Vec<&[u8]> = placement
-        .chunks_exact(32)
+        .chunks_exact(RECORD_BYTES)
         .filter(|record| u64::from(u16::from_le_bytes([record[0], record[1]])) == g)
         .map(|record| &record[12..16])
         .collect();
@@ -124,7 +130,7 @@ fn strikes_of(placement: &[u8], g: u64) -> usize {
 fn valid_sheets() {
     run("valid_sheets", 20, &[0, 6, 17], |case, random, tally| {
         let sheet = sheets::valid(random);
-        let tables = Tables::of(&sheet);
+        let tables = sheet.tables();
         assert_eq!(compare::check_sheet(case, &tables), 0, "{case}: a sheet that should be accepted");
         laws::margins_cover_every_price(case, random, &sheet);
         laws::margins_are_reached(case, &sheet);
@@ -134,9 +140,8 @@ fn valid_sheets() {
 
 #[test]
 fn one_fault() {
-    let all_but_block_faults = [0, 1, 3, 4, 5, 6, 7, 8, 9, 10, 11, 12, 13, 14, 15, 16, 17];
-    run("one_fault", 25, &all_but_block_faults, |case, random, tally| {
-        let mut tables = Tables::of(&sheets::valid(random));
+    run("one_fault", 25, &ALL_BUT_DAMAGE, |case, random, tally| {
+        let mut tables = sheets::valid(random).tables();
         faults::one(random, &mut tables);
         try_tables(case, random, &tables, tally);
     });
@@ -144,9 +149,8 @@ fn one_fault() {
 
 #[test]
 fn two_or_more_faults() {
-    let all_but_block_faults = [0, 1, 3, 4, 5, 6, 7, 8, 9, 10, 11, 12, 13, 14, 15, 16, 17];
-    run("two_or_more_faults", 20, &all_but_block_faults, |case, random, tally| {
-        let mut tables = Tables::of(&sheets::valid(random));
+    run("two_or_more_faults", 20, &ALL_BUT_DAMAGE, |case, random, tally| {
+        let mut tables = sheets::valid(random).tables();
         for _ in 0..2 + random.below(2) {
             faults::one(random, &mut tables);
         }
@@ -174,7 +178,7 @@ fn tiny_worlds() {
 fn damaged_files() {
     let wanted = [0, 1, 2, 3, 4, 5, 6, 10, 11, 12, 14, 17];
     run("damaged_files", 20, &wanted, |case, random, tally| {
-        let mut tables = Tables::of(&sheets::valid(random));
+        let mut tables = sheets::valid(random).tables();
         if random.one_in(4) {
             faults::one(random, &mut tables);
         }
