@@ -35,7 +35,7 @@ fn the_c_example_prints_what_it_says() {
         }
     };
     let package = Path::new(env!("CARGO_MANIFEST_DIR"));
-    let program = Path::new(env!("CARGO_TARGET_TMPDIR")).join("usm_c_example");
+    let program = common::folder("c-example").join("example");
     let compiled = Command::new(compiler)
         .args(["-std=c11", "-Wall", "-Wextra", "-Werror", "-pedantic", "-I"])
         .arg(package.join("include"))

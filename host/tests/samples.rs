@@ -13,14 +13,6 @@ fn committed() -> PathBuf {
     Path::new(env!("CARGO_MANIFEST_DIR")).join("../samples")
 }
 
-/// A fresh folder of this test's own.
-fn folder(name: &str) -> PathBuf {
-    let folder = Path::new(env!("CARGO_TARGET_TMPDIR")).join(name);
-    let _ = fs::remove_dir_all(&folder);
-    fs::create_dir_all(&folder).expect("a folder for the test");
-    folder
-}
-
 fn files_in(folder: &Path) -> BTreeMap<String, Vec<u8>> {
     let entries =
         fs::read_dir(folder).expect("the folder is there").map(|entry| entry.expect("an entry").path());
@@ -52,7 +44,7 @@ fn table() -> BTreeMap<String, String> {
 
 #[test]
 fn the_committed_samples_are_what_the_program_makes() {
-    let made = folder("samples");
+    let made = common::folder("samples");
     let status =
         common::program(env!("CARGO_BIN_EXE_usm_samples")).arg(&made).status().expect("usm_samples runs");
     assert!(status.success());
@@ -123,7 +115,7 @@ fn the_text_of_a_sample_makes_its_file() {
 
 #[test]
 fn the_program_overwrites_nothing_unasked() {
-    let made = folder("samples-kept");
+    let made = common::folder("samples-kept");
     let kept = made.join("box.usm");
     fs::write(&kept, "mine").expect("a file");
     let run = |arguments: &[&str]| {
