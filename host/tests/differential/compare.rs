@@ -1,7 +1,7 @@
 //! Each call of the library against the model: the four numbers of the answer, and the
 //! whole content of every lent buffer. The raw C interface is called, with guards.
 
-use std::fmt::Display;
+use std::fmt::{Debug, Display};
 
 use usm::ffi::{self, Answer, LINE_BYTES};
 use usm::{model, Refusal, Table, Tables, RECORD_BYTES};
@@ -28,11 +28,10 @@ fn same(case: &dyn Display, call: &str, library: Option<Answer>, model: Answer) 
 /// Fails unless a lent buffer holds what the model made of it, and no more was written.
 fn same_buffer<T>(case: &dyn Display, call: &str, library: &Lent<T>, model: &Lent<T>, output: usize)
 where
-    T: Copy + From<u8> + PartialEq + std::fmt::Debug,
+    T: Copy + From<u8> + PartialEq + Debug,
 {
-    assert!(model.stayed_past(output), "{case}: {call}: the model wrote past its output");
-    assert!(library.stayed_past(output), "{case}: {call}: the library wrote past its output of {output}");
     assert!(library == model, "{case}: {call}: buffers differ\nlibrary {library:?}\nmodel   {model:?}");
+    assert!(model.stayed_past(output), "{case}: {call}: both wrote past their output of {output}");
 }
 
 pub fn check_table(case: &dyn Display, kind: u64, table: &[u8]) -> u64 {

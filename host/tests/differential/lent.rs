@@ -1,7 +1,5 @@
 //! Lent buffers that notice every write: guards before and behind, all in a pattern.
 
-use std::fmt::Debug;
-
 use usm::ffi::Answer;
 
 const GUARD: usize = 40;
@@ -12,9 +10,13 @@ pub struct Lent<T> {
     entries: Vec<T>,
 }
 
-impl<T: Copy + From<u8> + PartialEq + Debug> Lent<T> {
+/// The entries of a fresh buffer, no two neighbours alike.
+fn pattern<T: From<u8>>(index: usize) -> T {
+    T::from((index as u8).wrapping_mul(37) ^ 0xA5)
+}
+
+impl<T: Copy + From<u8> + PartialEq> Lent<T> {
     pub fn of_length(length: usize) -> Lent<T> {
-        let pattern = |index: usize| T::from((index * 37 % 251) as u8 ^ 0xA5);
         Lent { entries: (0..GUARD + length + GUARD).map(pattern).collect() }
     }
 
@@ -25,9 +27,8 @@ impl<T: Copy + From<u8> + PartialEq + Debug> Lent<T> {
 
     /// Whether everything from `output` entries on, and the guards, are still the pattern.
     pub fn stayed_past(&self, output: usize) -> bool {
-        let fresh = Lent::of_length(self.entries.len() - 2 * GUARD);
-        self.entries[..GUARD] == fresh.entries[..GUARD]
-            && self.entries[GUARD + output..] == fresh.entries[GUARD + output..]
+        let stayed = |index: usize| self.entries[index] == pattern(index);
+        (0..GUARD).all(stayed) && (GUARD + output..self.entries.len()).all(stayed)
     }
 }
 
