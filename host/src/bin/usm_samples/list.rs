@@ -7,60 +7,36 @@ use crate::changes;
 
 /// How a sample's file comes from its sheet.
 pub enum Making {
-    /// Written as it is; the text beside it makes the same file.
-    FromText,
+    /// Written as it is; the text beside it, which starts with what it shows, makes the same
+    /// file.
+    FromText { about: &'static str },
     /// Written, then changed in a way no text can ask for.
     Changed(fn(Vec<u8>) -> Vec<u8>),
 }
 
 pub struct Sample {
     pub name: &'static str,
-    pub about: &'static str,
     pub sheet: Sheet,
     pub making: Making,
 }
 
 fn sample(name: &'static str, about: &'static str, sheet: Sheet) -> Sample {
-    Sample { name, about, sheet, making: Making::FromText }
+    Sample { name, sheet, making: Making::FromText { about } }
 }
 
 fn changed(name: &'static str, change: fn(Vec<u8>) -> Vec<u8>) -> Sample {
     let sheet = placed(&iron_condor(2), &[1_000_000, 500_000]);
-    Sample { name, about: "", sheet, making: Making::Changed(change) }
-}
-
-/// P4's legs, puts in group 1 and calls in the given one.
-fn iron_condor(call_group: u16) -> [Leg; 4] {
-    [leg("L50p"), leg("S60p"), in_group(call_group, leg("S65c")), in_group(call_group, leg("L70c"))]
-}
-
-/// Holdings and placement with the same contracts in every line and side, cut differently.
-fn split_lines() -> Sheet {
-    let second = [times(2, "S50c"), times(2, "L60c")].map(|leg| in_group(2, leg));
-    let holdings = [times(5, "L60c"), times(1, "S50c"), times(4, "S50c")].map(|leg| in_group(0, leg));
-    let placement = [times(3, "L60c"), times(3, "S50c"), second[0], second[1]];
-    Sheet { holdings: holdings.to_vec(), ..placed(&placement, &[3_000_000, 2_000_000]) }
+    Sample { name, sheet, making: Making::Changed(change) }
 }
 
 pub fn samples() -> Vec<Sample> {
-    let mut all = accepted();
-    all.extend(refused());
-    all.extend([
-        changed("damaged-block", changes::damage_a_strike),
-        changed("kinds-that-fall", changes::put_claims_before_placement),
-        changed("no-such-date", changes::expire_on_29_february_2011),
-        changed("torn-file", changes::cut_off_the_end),
-    ]);
-    all
+    let lists = [spreads(), accepted_sheets(), no_spreads(), refused_sheets(), changed_files()];
+    lists.into_iter().flatten().collect()
 }
 
-fn accepted() -> Vec<Sample> {
+/// One group each, and accepted.
+fn spreads() -> Vec<Sample> {
     vec![
-        sample(
-            "iron-condor-in-two-groups",
-            "An iron condor placed as two verticals: each half needs its own margin.",
-            placed(&iron_condor(2), &[1_000_000, 500_000]),
-        ),
         sample(
             "iron-condor-in-one-group",
             "The same legs as one spread: only one half can lose, so it needs less.",
@@ -86,6 +62,17 @@ fn accepted() -> Vec<Sample> {
             "Ten contracts of unit 10 against one of unit 100: the units are equal.",
             placed(&[Leg { unit_size: 10, contracts: 10, ..leg("L60c") }, leg("S50c")], &[1_000_000]),
         ),
+    ]
+}
+
+/// About the placement as a whole, and accepted.
+fn accepted_sheets() -> Vec<Sample> {
+    vec![
+        sample(
+            "iron-condor-in-two-groups",
+            "An iron condor placed as two verticals: each half needs its own margin.",
+            placed(&iron_condor(2), &[1_000_000, 500_000]),
+        ),
         sample(
             "split-lines",
             "A line held in one record and placed in two groups, another held in two records.",
@@ -99,13 +86,9 @@ fn accepted() -> Vec<Sample> {
     ]
 }
 
-fn refused() -> Vec<Sample> {
+/// Groups that are no spread (10 to 13).
+fn no_spreads() -> Vec<Sample> {
     vec![
-        sample(
-            "claim-one-mill-short",
-            "The iron condor in two groups, with the second claim a mill too small.",
-            placed(&iron_condor(2), &[1_000_000, 499_999]),
-        ),
         sample(
             "contracts-balance-units-do-not",
             "One contract of unit 10 against one of unit 100: \
@@ -135,6 +118,17 @@ fn refused() -> Vec<Sample> {
             "Long and short the same series in one group.",
             placed(&[leg("L50c"), leg("S50c")], &[0]),
         ),
+    ]
+}
+
+/// Spreads in a sheet that is refused (14 to 16).
+fn refused_sheets() -> Vec<Sample> {
+    vec![
+        sample(
+            "claim-one-mill-short",
+            "The iron condor in two groups, with the second claim a mill too small.",
+            placed(&iron_condor(2), &[1_000_000, 499_999]),
+        ),
         sample(
             "european-against-american",
             "The account holds the European line, the placement shows the American one: \
@@ -153,4 +147,27 @@ fn refused() -> Vec<Sample> {
             placed(&[leg("L60c"), leg("S50c"), in_group(0, leg("S50p"))], &[1_000_000]),
         ),
     ]
+}
+
+/// Files that are refused before any rule is asked (1 to 4).
+fn changed_files() -> Vec<Sample> {
+    vec![
+        changed("damaged-block", changes::damage_a_strike),
+        changed("kinds-that-fall", changes::put_claims_before_placement),
+        changed("no-such-date", changes::expire_on_29_february_2011),
+        changed("torn-file", changes::cut_off_the_end),
+    ]
+}
+
+/// P4's legs, puts in group 1 and calls in the given one.
+fn iron_condor(call_group: u16) -> [Leg; 4] {
+    [leg("L50p"), leg("S60p"), in_group(call_group, leg("S65c")), in_group(call_group, leg("L70c"))]
+}
+
+/// Holdings and placement with the same contracts in every line and side, cut differently.
+fn split_lines() -> Sheet {
+    let second = [times(2, "S50c"), times(2, "L60c")].map(|leg| in_group(2, leg));
+    let holdings = [times(5, "L60c"), times(1, "S50c"), times(4, "S50c")].map(|leg| in_group(0, leg));
+    let placement = [times(3, "L60c"), times(3, "S50c"), second[0], second[1]];
+    Sheet { holdings: holdings.to_vec(), ..placed(&placement, &[3_000_000, 2_000_000]) }
 }

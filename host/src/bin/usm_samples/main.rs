@@ -28,8 +28,8 @@ fn write_all(folder: &Path, force: bool) -> Result<ExitCode, String> {
     for sample in samples() {
         let mut file = sample.sheet.to_file().map_err(|refusal| format!("{}: {refusal}", sample.name))?;
         match sample.making {
-            Making::FromText => {
-                let text = format!("# {}\n\n{}", sample.about, text::show(&sample.sheet));
+            Making::FromText { about } => {
+                let text = format!("# {about}\n\n{}", text::show(&sample.sheet));
                 write(&folder.join(sample.name).with_extension("txt"), text.as_bytes(), force)?;
             }
             Making::Changed(change) => file = change(file),
