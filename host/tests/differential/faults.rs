@@ -81,7 +81,7 @@ fn out_of_range(random: &mut Random, tables: &mut Tables) {
     }
 }
 
-/// Refusal 5 and 6: claims out of order, one too few or too many.
+/// Refusals 5 and 6: claims out of order, one too few or too many.
 fn numbering(random: &mut Random, tables: &mut Tables) {
     let count = records(&tables.claims);
     match random.below(4) {
@@ -150,7 +150,7 @@ fn other_group(random: &mut Random, tables: &mut Tables) {
     put(&mut tables.placement, record, GROUP, group);
 }
 
-/// Refusal 10: a leg takes over the series of another one of its group.
+/// Refusal 10: a leg takes over the series of another, which may be of its own group.
 fn doubled_series(random: &mut Random, tables: &mut Tables) {
     let count = records(&tables.placement);
     if count < 2 {

@@ -1,4 +1,4 @@
-//! Sheet files that are damaged: by the mail, by a tool, or by someone who mends the checks.
+//! Sheet files, and damage to them: by the mail, by a tool, or by someone who mends the checks.
 
 use usm::block::{renumber, seal, BLOCK_BYTES, CHECKS_AT, RECORDS_AT};
 use usm::{Tables, RECORD_BYTES};

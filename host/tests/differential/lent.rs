@@ -10,9 +10,10 @@ pub struct Lent<T> {
     entries: Vec<T>,
 }
 
-/// The entries of a fresh buffer, no two neighbours alike.
+/// The entries of a fresh buffer. They come round after 251, a prime: what is copied within
+/// the buffer by whole records or blocks shows, too.
 fn pattern<T: From<u8>>(index: usize) -> T {
-    T::from((index as u8).wrapping_mul(37) ^ 0xA5)
+    T::from((index * 37 % 251) as u8 ^ 0xA5)
 }
 
 impl<T: Copy + From<u8> + PartialEq> Lent<T> {
