@@ -5,6 +5,7 @@ use crate::refusal::{Accepted, RecordCounts, Refusal};
 use crate::{calls, model};
 
 /// The calls of one implementation.
+#[allow(clippy::type_complexity)] // a list of signatures is what this is
 pub struct Calls {
     pub name: &'static str,
     pub check_table: fn(Table, &[u8]) -> Result<usize, Refusal>,

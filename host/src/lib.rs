@@ -6,8 +6,8 @@
 //! result, or with the first [`Refusal`] in document 01's order.
 //!
 //! [`model`] is a second implementation, kept for the differential tests and the benchmark,
-//! which find the two side by side in [`both`]. [`accounts`] and [`block`] serve the tests,
-//! too, and the samples.
+//! which find the two side by side in [`both`]. [`accounts`] and [`block`] serve the tests
+//! and the samples, [`program`] the programs beside this library.
 
 pub mod accounts;
 pub mod block;
