@@ -30,10 +30,7 @@ pub fn margin(placement: &[u8], g: u64) -> Result<i64, Refusal> {
 
 /// The margins of groups 1 to `n`, from `out[0]`.
 pub fn margins(placement: &[u8], n: u64, out: &mut [i64]) -> Result<usize, Refusal> {
-    let placement = tables::placement(placement)?;
-    let margins = (1..=n)
-        .map(|g| spread::of_group(&placement, g).map(|group| spread::margin(&group)))
-        .collect::<Result<Vec<i64>, Refusal>>()?;
+    let margins = spread::margins(&tables::placement(placement)?, n)?;
     let room = out.get_mut(..margins.len()).ok_or(Refusal::new(17, 0, n))?;
     room.copy_from_slice(&margins);
     Ok(margins.len())

@@ -31,9 +31,9 @@ fn total(accepted: Accepted) -> u64 {
     accepted.total as u64
 }
 
-fn check_sheet(name: &'static str, sheet: &Sheet) -> Row {
+fn check_sheet(name: &'static str, tables: &Tables) -> Row {
     row(name, |calls| {
-        let Tables { holdings, placement, claims } = sheet.tables();
+        let Tables { holdings, placement, claims } = tables.clone();
         move || folded((calls.check_sheet)(&holdings, &placement, &claims), total)
     })
 }
@@ -75,7 +75,7 @@ fn read_file(name: &'static str, file: &[u8]) -> Row {
 fn write_file(name: &'static str, sheet: &Sheet) -> Row {
     row(name, |calls| {
         let Tables { holdings, placement, claims } = sheet.tables();
-        let mut out = [0; LONGEST_FILE];
+        let mut out = vec![0; LONGEST_FILE];
         move || {
             let length = (calls.write_file)(&holdings, &placement, &claims, &mut out);
             folded(length, |length| length as u64)
@@ -96,16 +96,16 @@ fn damaged(sheet: &Sheet, block: usize) -> Vec<u8> {
 
 pub fn rows() -> Vec<Row> {
     let (small, typical, full, wide) = (sheet(1, 4), sheet(12, 5), sheet(32, 8), sheet(1, 256));
-    let mut bad_field = full.clone();
-    bad_field.holdings[0].strike = 0;
+    let mut bad_field = full.tables();
+    bad_field.holdings[2] = 9; // the side of record 0
     let mut wrong_claim = full.clone();
     wrong_claim.claims[31].margin ^= 1;
 
     vec![
-        check_sheet("check sheet, small (4 legs, 1 group)", &small),
-        check_sheet("check sheet, typical (60 legs, 12 groups)", &typical),
-        check_sheet("check sheet, full (256/256/32)", &full),
-        check_sheet("check sheet, one group of 256 strikes", &wide),
+        check_sheet("check sheet, small (4 legs, 1 group)", &small.tables()),
+        check_sheet("check sheet, typical (60 legs, 12 groups)", &typical.tables()),
+        check_sheet("check sheet, full (256/256/32)", &full.tables()),
+        check_sheet("check sheet, one group of 256 strikes", &wide.tables()),
         margins("margins of one group of 256 strikes", &wide),
         margins("margins of 32 groups of 8", &full),
         worksheet("worksheet of 256 strikes", &wide),
@@ -116,7 +116,7 @@ pub fn rows() -> Vec<Row> {
         read_file("read file, 39 blocks", &file_of(&full)),
         write_file("write file, 39 blocks", &full),
         check_sheet("refused early: bad field in holding 0 (4)", &bad_field),
-        check_sheet("refused late: claim 32 a mill off (16)", &wrong_claim),
+        check_sheet("refused late: claim 32 a mill off (16)", &wrong_claim.tables()),
         check_file("refused early: block 0 damaged (2)", &damaged(&full, 0)),
         check_file("refused late: block 38 damaged (2)", &damaged(&full, 38)),
     ]
