@@ -54,76 +54,108 @@ static int refused(const char *call, const uint64_t *answer)
     return 1;
 }
 
-int main(void)
+/* A sheet of four legs in two groups. */
+struct sheet {
+    uint8_t holdings[4 * USM_RECORD_BYTES], placement[4 * USM_RECORD_BYTES];
+    uint8_t claims[2 * USM_RECORD_BYTES];
+};
+
+static void place_iron_condor(struct sheet *sheet)
 {
     static const struct { unsigned group, side, type; uint32_t strike; } legs[4] = {
         { 1, LONG, PUT, 50000 }, { 1, SHORT, PUT, 60000 },
         { 2, SHORT, CALL, 65000 }, { 2, LONG, CALL, 70000 },
     };
-    uint8_t holdings[4 * USM_RECORD_BYTES], placement[4 * USM_RECORD_BYTES];
-    uint8_t claims[2 * USM_RECORD_BYTES];
-    uint64_t answer[USM_ANSWER_NUMBERS];
-
     for (size_t i = 0; i < 4; i++) {
-        leg(holdings + i * USM_RECORD_BYTES, 0, legs[i].side, legs[i].type, legs[i].strike);
-        leg(placement + i * USM_RECORD_BYTES, legs[i].group, legs[i].side, legs[i].type, legs[i].strike);
+        size_t at = i * USM_RECORD_BYTES;
+        leg(sheet->holdings + at, 0, legs[i].side, legs[i].type, legs[i].strike);
+        leg(sheet->placement + at, legs[i].group, legs[i].side, legs[i].type, legs[i].strike);
     }
+}
 
-    /* The margins of both groups, and the claims made from them. */
+/* The margins of both groups, and the claims made from them. */
+static int claim_margins(struct sheet *sheet)
+{
     int64_t margins[2];
-    usm_margins(placement, sizeof placement, 2, margins, 2, answer);
+    uint64_t answer[USM_ANSWER_NUMBERS];
+    usm_margins(sheet->placement, sizeof sheet->placement, 2, margins, 2, answer);
     if (refused("usm_margins", answer))
-        return 1;
+        return 0;
     for (unsigned g = 1; g <= 2; g++) {
         printf("group %u margin %" PRId64 "\n", g, margins[g - 1]);
-        claim(claims + (g - 1) * USM_RECORD_BYTES, g, (uint64_t)margins[g - 1]);
+        claim(sheet->claims + (g - 1) * USM_RECORD_BYTES, g, (uint64_t)margins[g - 1]);
     }
+    return 1;
+}
 
-    /* The worksheet of group 1. */
+static int print_worksheet(const struct sheet *sheet, uint64_t g)
+{
     uint32_t strikes[USM_MOST_LEGS];
     int64_t nets[USM_MOST_LEGS];
-    usm_worksheet(placement, sizeof placement, 1, strikes, USM_MOST_LEGS, nets, USM_MOST_LEGS, answer);
+    uint64_t answer[USM_ANSWER_NUMBERS];
+    usm_worksheet(sheet->placement, sizeof sheet->placement, g,
+                  strikes, USM_MOST_LEGS, nets, USM_MOST_LEGS, answer);
     if (refused("usm_worksheet", answer))
-        return 1;
+        return 0;
     for (uint64_t i = 0; i < answer[1]; i++)
         printf("strike %" PRIu32 " net %" PRId64 "\n", strikes[i], nets[i]);
+    return 1;
+}
 
-    /* The verdict on the three tables. */
-    usm_check_sheet(holdings, sizeof holdings, placement, sizeof placement, claims, sizeof claims, answer);
+/* The verdict on the three tables. */
+static int check(const struct sheet *sheet)
+{
+    uint64_t answer[USM_ANSWER_NUMBERS];
+    usm_check_sheet(sheet->holdings, sizeof sheet->holdings, sheet->placement, sizeof sheet->placement,
+                    sheet->claims, sizeof sheet->claims, answer);
     if (refused("usm_check_sheet", answer))
-        return 1;
+        return 0;
     printf("accepted: groups %" PRIu64 ", total %" PRIu64 " mills\n", answer[1], answer[2]);
+    return 1;
+}
 
-    /* The file, the line the checker prints for it, and the way back. */
+/* The file, the line the checker prints for it, and the way back. */
+static int write_and_read_back(const struct sheet *sheet)
+{
     uint8_t file[USM_LONGEST_FILE];
-    usm_write_file(holdings, sizeof holdings, placement, sizeof placement, claims, sizeof claims,
-                   file, sizeof file, answer);
+    uint64_t answer[USM_ANSWER_NUMBERS];
+    usm_write_file(sheet->holdings, sizeof sheet->holdings, sheet->placement, sizeof sheet->placement,
+                   sheet->claims, sizeof sheet->claims, file, sizeof file, answer);
     if (refused("usm_write_file", answer))
-        return 1;
+        return 0;
     size_t file_len = (size_t)answer[1];
     uint8_t line[USM_LINE_BYTES];
     size_t line_len = usm_file_line(file, file_len, line);
     printf("file of %zu bytes: %.*s", file_len, (int)line_len, (const char *)line);
 
-    uint8_t holdings_back[USM_LEGS_BYTES], placement_back[USM_LEGS_BYTES], claims_back[USM_CLAIMS_BYTES];
-    usm_read_file(file, file_len, holdings_back, sizeof holdings_back, placement_back, sizeof placement_back,
-                  claims_back, sizeof claims_back, answer);
+    struct sheet back;
+    usm_read_file(file, file_len, back.holdings, sizeof back.holdings, back.placement, sizeof back.placement,
+                  back.claims, sizeof back.claims, answer);
     if (refused("usm_read_file", answer))
-        return 1;
-    int same = memcmp(holdings, holdings_back, sizeof holdings) == 0
-        && memcmp(placement, placement_back, sizeof placement) == 0
-        && memcmp(claims, claims_back, sizeof claims) == 0;
+        return 0;
+    int same = memcmp(sheet, &back, sizeof back) == 0;
     printf("read back %" PRIu64 " + %" PRIu64 " + %" PRIu64 " records, %s\n",
            answer[1], answer[2], answer[3], same ? "the same" : "NOT the same");
+    return same;
+}
 
-    /* A claim one mill short is refusal 16 at group 2. */
-    claim(claims + USM_RECORD_BYTES, 2, (uint64_t)margins[1] - 1);
-    usm_check_sheet(holdings, sizeof holdings, placement, sizeof placement, claims, sizeof claims, answer);
-    refused("usm_check_sheet", answer);
-
-    /* An empty table is length 0 with a pointer all the same, never NULL. */
-    uint8_t none[1] = { 0 };
+/* An empty table is length 0 with a pointer all the same, never NULL. */
+static int write_nothing(void)
+{
+    uint8_t none[1] = { 0 }, file[USM_BLOCK_BYTES];
+    uint64_t answer[USM_ANSWER_NUMBERS];
     usm_write_file(none, 0, none, 0, none, 0, file, sizeof file, answer);
-    refused("usm_write_file", answer);
-    return same ? 0 : 1;
+    return !refused("usm_write_file", answer);
+}
+
+int main(void)
+{
+    struct sheet sheet;
+    place_iron_condor(&sheet);
+    if (!claim_margins(&sheet) || !print_worksheet(&sheet, 1) || !check(&sheet) || !write_and_read_back(&sheet))
+        return 1;
+
+    /* A claim one mill short is refusal 16 at group 2, and three empty tables make no file. */
+    claim(sheet.claims + USM_RECORD_BYTES, 2, 499999);
+    return check(&sheet) || write_nothing();
 }

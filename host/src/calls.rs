@@ -7,16 +7,10 @@ use crate::ffi;
 use crate::records::Table;
 use crate::refusal::{Accepted, RecordCounts, Refusal};
 
-/// Longest line `usm_file_line` writes.
-const LINE_BYTES: usize = 64;
-
 /// Runs a call that fills the four numbers of an answer, and parts results from refusals.
-///
-/// The pointers handed to the library come from Rust slices and arrays: never null, not
-/// even for empty ones, and `&mut` never overlaps another.
-fn ask(call: impl FnOnce(*mut u64)) -> Result<[u64; 3], Refusal> {
+fn ask(call: impl FnOnce(&mut ffi::Answer)) -> Result<[u64; 3], Refusal> {
     let mut answer = [0; 4];
-    call(answer.as_mut_ptr());
+    call(&mut answer);
     match answer {
         [0, first, second, third] => Ok([first, second, third]),
         [number, table, place, _] => Err(Refusal::new(number, table, place)),
@@ -32,9 +26,7 @@ fn ask(call: impl FnOnce(*mut u64)) -> Result<[u64; 3], Refusal> {
 /// assert_eq!(check_table(Table::Claims, &[0; 32]), Err(Refusal::new(4, 3, 0)));
 /// ```
 pub fn check_table(which: Table, table: &[u8]) -> Result<usize, Refusal> {
-    // SAFETY: the slice is readable for its length, the answer writable for four numbers.
-    ask(|answer| unsafe { ffi::usm_check_table(which.number(), table.as_ptr(), table.len(), answer) })
-        .map(|[records, ..]| records as usize)
+    ask(|answer| ffi::check_table(which.number(), table, answer)).map(|[records, ..]| records as usize)
 }
 
 /// The margin of group `g` in mills: 1, 4, then 6 to 13.
@@ -44,9 +36,7 @@ pub fn check_table(which: Table, table: &[u8]) -> Result<usize, Refusal> {
 /// assert_eq!(margin(&[], 1), Err(Refusal::new(6, 2, 1)));
 /// ```
 pub fn margin(placement: &[u8], g: u64) -> Result<i64, Refusal> {
-    // SAFETY: as in `check_table`.
-    ask(|answer| unsafe { ffi::usm_margin(placement.as_ptr(), placement.len(), g, answer) })
-        .map(|[margin, ..]| margin as i64)
+    ask(|answer| ffi::margin(placement, g, answer)).map(|[margin, ..]| margin as i64)
 }
 
 /// The margins of groups 1 to `n` from `out[0]` on; answers `n`.
@@ -60,11 +50,7 @@ pub fn margin(placement: &[u8], g: u64) -> Result<i64, Refusal> {
 /// assert_eq!(out, [-7, -7]);
 /// ```
 pub fn margins(placement: &[u8], n: u64, out: &mut [i64]) -> Result<usize, Refusal> {
-    // SAFETY: as in `check_table`; `out` is lent for its length.
-    ask(|answer| unsafe {
-        ffi::usm_margins(placement.as_ptr(), placement.len(), n, out.as_mut_ptr(), out.len(), answer)
-    })
-    .map(|[groups, ..]| groups as usize)
+    ask(|answer| ffi::margins(placement, n, out, answer)).map(|[groups, ..]| groups as usize)
 }
 
 /// The distinct strikes of group `g`, ascending, and the net at each; answers how many.
@@ -77,20 +63,7 @@ pub fn margins(placement: &[u8], n: u64, out: &mut [i64]) -> Result<usize, Refus
 /// assert_eq!((refusal.number, refusal.place), (6, 3));
 /// ```
 pub fn worksheet(placement: &[u8], g: u64, strikes: &mut [u32], nets: &mut [i64]) -> Result<usize, Refusal> {
-    // SAFETY: as in `check_table`; both slices are lent for their lengths.
-    ask(|answer| unsafe {
-        ffi::usm_worksheet(
-            placement.as_ptr(),
-            placement.len(),
-            g,
-            strikes.as_mut_ptr(),
-            strikes.len(),
-            nets.as_mut_ptr(),
-            nets.len(),
-            answer,
-        )
-    })
-    .map(|[rows, ..]| rows as usize)
+    ask(|answer| ffi::worksheet(placement, g, strikes, nets, answer)).map(|[rows, ..]| rows as usize)
 }
 
 /// The verdict on a sheet given as three tables.
@@ -100,19 +73,7 @@ pub fn worksheet(placement: &[u8], g: u64, strikes: &mut [u32], nets: &mut [i64]
 /// assert_eq!(check_sheet(&[], &[], &[]), Ok(Accepted { groups: 0, total: 0 }));
 /// ```
 pub fn check_sheet(holdings: &[u8], placement: &[u8], claims: &[u8]) -> Result<Accepted, Refusal> {
-    // SAFETY: as in `check_table`.
-    ask(|answer| unsafe {
-        ffi::usm_check_sheet(
-            holdings.as_ptr(),
-            holdings.len(),
-            placement.as_ptr(),
-            placement.len(),
-            claims.as_ptr(),
-            claims.len(),
-            answer,
-        )
-    })
-    .map(accepted)
+    ask(|answer| ffi::check_sheet(holdings, placement, claims, answer)).map(accepted)
 }
 
 /// The verdict on a sheet file.
@@ -121,8 +82,7 @@ pub fn check_sheet(holdings: &[u8], placement: &[u8], claims: &[u8]) -> Result<A
 /// assert_eq!(usm::check_file(b"no sheet"), Err(usm::Refusal::new(1, 0, 0)));
 /// ```
 pub fn check_file(file: &[u8]) -> Result<Accepted, Refusal> {
-    // SAFETY: as in `check_table`.
-    ask(|answer| unsafe { ffi::usm_check_file(file.as_ptr(), file.len(), answer) }).map(accepted)
+    ask(|answer| ffi::check_file(file, answer)).map(accepted)
 }
 
 /// Takes a sheet file apart: each kind's records from byte 0 of its lent table.
@@ -142,25 +102,13 @@ pub fn read_file(
     placement: &mut [u8],
     claims: &mut [u8],
 ) -> Result<RecordCounts, Refusal> {
-    // SAFETY: as in `check_table`; the three tables are lent for their lengths.
-    ask(|answer| unsafe {
-        ffi::usm_read_file(
-            file.as_ptr(),
-            file.len(),
-            holdings.as_mut_ptr(),
-            holdings.len(),
-            placement.as_mut_ptr(),
-            placement.len(),
-            claims.as_mut_ptr(),
-            claims.len(),
-            answer,
-        )
-    })
-    .map(|[holdings, placement, claims]| RecordCounts {
-        holdings: holdings as usize,
-        placement: placement as usize,
-        claims: claims as usize,
-    })
+    ask(|answer| ffi::read_file(file, holdings, placement, claims, answer)).map(
+        |[holdings, placement, claims]| RecordCounts {
+            holdings: holdings as usize,
+            placement: placement as usize,
+            claims: claims as usize,
+        },
+    )
 }
 
 /// Writes three tables as a sheet file into `out`; answers its length in bytes.
@@ -180,21 +128,8 @@ pub fn write_file(
     claims: &[u8],
     out: &mut [u8],
 ) -> Result<usize, Refusal> {
-    // SAFETY: as in `check_table`; `out` is lent for its length.
-    ask(|answer| unsafe {
-        ffi::usm_write_file(
-            holdings.as_ptr(),
-            holdings.len(),
-            placement.as_ptr(),
-            placement.len(),
-            claims.as_ptr(),
-            claims.len(),
-            out.as_mut_ptr(),
-            out.len(),
-            answer,
-        )
-    })
-    .map(|[length, ..]| length as usize)
+    ask(|answer| ffi::write_file(holdings, placement, claims, out, answer))
+        .map(|[length, ..]| length as usize)
 }
 
 /// The line `usm_check` prints for this file, with its newline.
@@ -203,9 +138,8 @@ pub fn write_file(
 /// assert_eq!(usm::file_line(&[]), "REFUSE 1 0 0\n");
 /// ```
 pub fn file_line(file: &[u8]) -> String {
-    let mut line = [0; LINE_BYTES];
-    // SAFETY: as in `check_table`; the line has its 64 bytes.
-    let length = unsafe { ffi::usm_file_line(file.as_ptr(), file.len(), line.as_mut_ptr()) };
+    let mut line = [0; ffi::LINE_BYTES];
+    let length = ffi::file_line(file, &mut line);
     line[..length].iter().copied().map(char::from).collect()
 }
 

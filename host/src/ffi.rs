@@ -1,16 +1,21 @@
-//! The C interface of `libusm_c.a`, as `include/usm.h` states it: every declaration of
-//! this package stands here.
+//! The C interface of `libusm_c.a`, as `include/usm.h` states it: every declaration of this
+//! package stands here, and the one place that calls it, on Rust slices.
 //!
-//! Slices pass as a pointer and a length. No pointer may be null, even with length 0,
-//! and lent buffers may not overlap. `answer` is four numbers, always written: 0 and the
-//! results, or refusal number, table, place and 0.
+//! An answer is four numbers, always written: 0 and the results, or refusal number, table,
+//! place and 0.
+
+/// The bytes of a line that [`file_line`] may fill.
+pub const LINE_BYTES: usize = 64;
+
+/// The four numbers of an answer.
+pub type Answer = [u64; 4];
 
 extern "C" {
-    pub fn usm_check_table(kind: u64, table: *const u8, table_len: usize, answer: *mut u64);
+    fn usm_check_table(kind: u64, table: *const u8, table_len: usize, answer: *mut u64);
 
-    pub fn usm_margin(placement: *const u8, placement_len: usize, g: u64, answer: *mut u64);
+    fn usm_margin(placement: *const u8, placement_len: usize, g: u64, answer: *mut u64);
 
-    pub fn usm_margins(
+    fn usm_margins(
         placement: *const u8,
         placement_len: usize,
         n: u64,
@@ -19,7 +24,7 @@ extern "C" {
         answer: *mut u64,
     );
 
-    pub fn usm_worksheet(
+    fn usm_worksheet(
         placement: *const u8,
         placement_len: usize,
         g: u64,
@@ -30,7 +35,7 @@ extern "C" {
         answer: *mut u64,
     );
 
-    pub fn usm_check_sheet(
+    fn usm_check_sheet(
         holdings: *const u8,
         holdings_len: usize,
         placement: *const u8,
@@ -40,9 +45,9 @@ extern "C" {
         answer: *mut u64,
     );
 
-    pub fn usm_check_file(file: *const u8, file_len: usize, answer: *mut u64);
+    fn usm_check_file(file: *const u8, file_len: usize, answer: *mut u64);
 
-    pub fn usm_read_file(
+    fn usm_read_file(
         file: *const u8,
         file_len: usize,
         holdings: *mut u8,
@@ -54,7 +59,7 @@ extern "C" {
         answer: *mut u64,
     );
 
-    pub fn usm_write_file(
+    fn usm_write_file(
         holdings: *const u8,
         holdings_len: usize,
         placement: *const u8,
@@ -66,6 +71,99 @@ extern "C" {
         answer: *mut u64,
     );
 
-    /// `line` is 64 bytes.
-    pub fn usm_file_line(file: *const u8, file_len: usize, line: *mut u8) -> usize;
+    fn usm_file_line(file: *const u8, file_len: usize, line: *mut u8) -> usize;
+}
+
+// SAFETY, of every call below: each pointer comes from a slice or an array, with its length.
+// It is never null, not even for an empty slice, and what is lent for writing is a `&mut`,
+// which overlaps nothing else. The library has no other condition.
+
+pub fn check_table(kind: u64, table: &[u8], answer: &mut Answer) {
+    unsafe { usm_check_table(kind, table.as_ptr(), table.len(), answer.as_mut_ptr()) }
+}
+
+pub fn margin(placement: &[u8], g: u64, answer: &mut Answer) {
+    unsafe { usm_margin(placement.as_ptr(), placement.len(), g, answer.as_mut_ptr()) }
+}
+
+pub fn margins(placement: &[u8], n: u64, out: &mut [i64], answer: &mut Answer) {
+    unsafe {
+        usm_margins(placement.as_ptr(), placement.len(), n, out.as_mut_ptr(), out.len(), answer.as_mut_ptr())
+    }
+}
+
+pub fn worksheet(placement: &[u8], g: u64, strikes: &mut [u32], nets: &mut [i64], answer: &mut Answer) {
+    unsafe {
+        usm_worksheet(
+            placement.as_ptr(),
+            placement.len(),
+            g,
+            strikes.as_mut_ptr(),
+            strikes.len(),
+            nets.as_mut_ptr(),
+            nets.len(),
+            answer.as_mut_ptr(),
+        )
+    }
+}
+
+pub fn check_sheet(holdings: &[u8], placement: &[u8], claims: &[u8], answer: &mut Answer) {
+    unsafe {
+        usm_check_sheet(
+            holdings.as_ptr(),
+            holdings.len(),
+            placement.as_ptr(),
+            placement.len(),
+            claims.as_ptr(),
+            claims.len(),
+            answer.as_mut_ptr(),
+        )
+    }
+}
+
+pub fn check_file(file: &[u8], answer: &mut Answer) {
+    unsafe { usm_check_file(file.as_ptr(), file.len(), answer.as_mut_ptr()) }
+}
+
+pub fn read_file(
+    file: &[u8],
+    holdings: &mut [u8],
+    placement: &mut [u8],
+    claims: &mut [u8],
+    answer: &mut Answer,
+) {
+    unsafe {
+        usm_read_file(
+            file.as_ptr(),
+            file.len(),
+            holdings.as_mut_ptr(),
+            holdings.len(),
+            placement.as_mut_ptr(),
+            placement.len(),
+            claims.as_mut_ptr(),
+            claims.len(),
+            answer.as_mut_ptr(),
+        )
+    }
+}
+
+pub fn write_file(holdings: &[u8], placement: &[u8], claims: &[u8], out: &mut [u8], answer: &mut Answer) {
+    unsafe {
+        usm_write_file(
+            holdings.as_ptr(),
+            holdings.len(),
+            placement.as_ptr(),
+            placement.len(),
+            claims.as_ptr(),
+            claims.len(),
+            out.as_mut_ptr(),
+            out.len(),
+            answer.as_mut_ptr(),
+        )
+    }
+}
+
+/// Answers the length of the line, newline included.
+pub fn file_line(file: &[u8], line: &mut [u8; LINE_BYTES]) -> usize {
+    unsafe { usm_file_line(file.as_ptr(), file.len(), line.as_mut_ptr()) }
 }

@@ -5,10 +5,16 @@
 //! of tables and files with the functions beside it. Every input is answered: with a
 //! result, or with the first [`Refusal`] in document 01's order.
 //!
-//! [`model`] is a second implementation, kept for the differential tests and the benchmark.
+//! [`model`] is a second implementation, kept for the differential tests and the benchmark,
+//! which find the two side by side in [`both`]. [`accounts`] and [`block`] serve the tests
+//! and the samples, [`program`] the programs beside this library.
 
+pub mod accounts;
+pub mod block;
+pub mod both;
 pub mod ffi;
 pub mod model;
+pub mod program;
 pub mod text;
 
 mod calls;
@@ -24,4 +30,4 @@ pub use records::{
     GREATEST_STRIKE, GREATEST_UNIT_SIZE, MOST_CLAIMS, MOST_CONTRACTS, MOST_LEGS, RECORD_BYTES,
 };
 pub use refusal::{Accepted, RecordCounts, Refusal};
-pub use sheet::{claim_table, leg_table, Sheet, LONGEST_FILE};
+pub use sheet::{claim_table, leg_table, Sheet, Tables};

@@ -1,11 +1,9 @@
 //! A sheet as Rust values: legs and claims instead of bytes.
 
+use crate::block::LONGEST_FILE;
 use crate::calls;
 use crate::records::{Claim, Leg, Table, RECORD_BYTES};
 use crate::refusal::{Accepted, Refusal};
-
-/// Longest sheet file: 39 blocks of 512 bytes.
-pub const LONGEST_FILE: usize = 39 * 512;
 
 /// An account's holdings, how a member places them in groups, and the margins claimed.
 ///
@@ -48,14 +46,36 @@ pub struct Sheet {
     pub claims: Vec<Claim>,
 }
 
+/// The three tables of a sheet as the bytes that the calls take.
+#[derive(Clone, Debug)]
+pub struct Tables {
+    pub holdings: Vec<u8>,
+    pub placement: Vec<u8>,
+    pub claims: Vec<u8>,
+}
+
+impl Tables {
+    /// All three, in the order in which they stand in a file.
+    pub fn in_order(&self) -> [(Table, &[u8]); 3] {
+        let Tables { holdings, placement, claims } = self;
+        [(Table::Holdings, holdings), (Table::Placement, placement), (Table::Claims, claims)]
+    }
+}
+
 impl Sheet {
+    /// The sheet as tables.
+    pub fn tables(&self) -> Tables {
+        Tables {
+            holdings: leg_table(&self.holdings),
+            placement: leg_table(&self.placement),
+            claims: claim_table(&self.claims),
+        }
+    }
+
     /// The verdict on this sheet.
     pub fn check(&self) -> Result<Accepted, Refusal> {
-        calls::check_sheet(
-            &leg_table(&self.holdings),
-            &leg_table(&self.placement),
-            &claim_table(&self.claims),
-        )
+        let Tables { holdings, placement, claims } = self.tables();
+        calls::check_sheet(&holdings, &placement, &claims)
     }
 
     /// The margin of group `g`, in mills.
@@ -73,22 +93,16 @@ impl Sheet {
 
     /// The sheet as a file.
     pub fn to_file(&self) -> Result<Vec<u8>, Refusal> {
+        let Tables { holdings, placement, claims } = self.tables();
         let mut file = vec![0; LONGEST_FILE];
-        let length = calls::write_file(
-            &leg_table(&self.holdings),
-            &leg_table(&self.placement),
-            &claim_table(&self.claims),
-            &mut file,
-        )?;
+        let length = calls::write_file(&holdings, &placement, &claims, &mut file)?;
         file.truncate(length);
         Ok(file)
     }
 
     /// The sheet in a file, judged only as far as the reader does (1 to 4).
     pub fn from_file(file: &[u8]) -> Result<Sheet, Refusal> {
-        let room = |table: Table| vec![0; table.most_records() * RECORD_BYTES];
-        let (mut holdings, mut placement, mut claims) =
-            (room(Table::Holdings), room(Table::Placement), room(Table::Claims));
+        let [mut holdings, mut placement, mut claims] = Table::ALL.map(|table| vec![0; table.most_bytes()]);
         let counts = calls::read_file(file, &mut holdings, &mut placement, &mut claims)?;
         Ok(Sheet {
             holdings: records(&holdings, counts.holdings, Leg::from_bytes),

@@ -7,18 +7,11 @@ use std::fs;
 use std::path::{Path, PathBuf};
 use std::process::Stdio;
 
-use usm::{model, text, Sheet};
+use usm::both::BOTH;
+use usm::{text, Sheet};
 
 fn committed() -> PathBuf {
     Path::new(env!("CARGO_MANIFEST_DIR")).join("../samples")
-}
-
-/// A fresh folder of this test's own.
-fn folder(name: &str) -> PathBuf {
-    let folder = Path::new(env!("CARGO_TARGET_TMPDIR")).join(name);
-    let _ = fs::remove_dir_all(&folder);
-    fs::create_dir_all(&folder).expect("a folder for the test");
-    folder
 }
 
 fn files_in(folder: &Path) -> BTreeMap<String, Vec<u8>> {
@@ -52,7 +45,7 @@ fn table() -> BTreeMap<String, String> {
 
 #[test]
 fn the_committed_samples_are_what_the_program_makes() {
-    let made = folder("samples");
+    let made = common::folder("samples");
     let status =
         common::program(env!("CARGO_BIN_EXE_usm_samples")).arg(&made).status().expect("usm_samples runs");
     assert!(status.success());
@@ -70,34 +63,26 @@ fn every_sample_prints_the_line_in_the_table() {
     assert!(sheets.len() >= 12, "a dozen samples");
     assert_eq!(sheets, table.keys().collect::<Vec<_>>(), "the table has one row for each sample");
     for (name, line) in &table {
-        assert_eq!(usm::file_line(&files[name]), format!("{line}\n"), "{name}, library");
-        assert_eq!(model::file_line(&files[name]), format!("{line}\n"), "{name}, model");
+        for calls in &BOTH {
+            assert_eq!((calls.file_line)(&files[name]), format!("{line}\n"), "{name}, {}", calls.name);
+        }
     }
 }
 
-/// The proved program: where `USM_CHECK` says, or where `rt check` puts it, if it is there.
-fn checker() -> Option<PathBuf> {
-    match std::env::var_os("USM_CHECK") {
-        Some(named) => Some(PathBuf::from(named)),
-        None => {
-            let built = Path::new(env!("CARGO_MANIFEST_DIR")).join("../target/bin/usm_check");
-            built.is_file().then_some(built)
-        }
-    }
+/// The proved program: where `USM_CHECK` says, or where `rt check` puts it.
+fn checker() -> PathBuf {
+    let built = Path::new(env!("CARGO_MANIFEST_DIR")).join("../target/bin/usm_check");
+    std::env::var_os("USM_CHECK").map_or(built, PathBuf::from)
 }
 
 #[test]
 fn the_program_usm_check_prints_the_line_in_the_table() {
-    let checker = match checker() {
-        Some(checker) => checker,
-        None => {
-            println!(
-                "SKIPPED: target/bin/usm_check is not built (`rt check usm_check`), and USM_CHECK names none"
-            );
-            return;
-        }
-    };
-    let table = table();
+    let (checker, table) = (checker(), table());
+    assert!(
+        checker.is_file(),
+        "{} is not there: `rt check usm_check` makes it, or USM_CHECK names another",
+        checker.display()
+    );
     assert!(table.len() >= 12, "a dozen samples");
     for (name, line) in &table {
         let sample = fs::File::open(committed().join(name)).expect("a sample");
@@ -123,7 +108,7 @@ fn the_text_of_a_sample_makes_its_file() {
 
 #[test]
 fn the_program_overwrites_nothing_unasked() {
-    let made = folder("samples-kept");
+    let made = common::folder("samples-kept");
     let kept = made.join("box.usm");
     fs::write(&kept, "mine").expect("a file");
     let run = |arguments: &[&str]| {

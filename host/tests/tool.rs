@@ -4,8 +4,10 @@ mod common;
 
 use std::fs;
 use std::io::Write;
-use std::path::{Path, PathBuf};
+use std::path::Path;
 use std::process::{Output, Stdio};
+
+use common::folder;
 
 const VERTICAL: &str = "\
 # P1 of document 01's bench
@@ -18,14 +20,6 @@ placement
 claims
   claim 1 1000000
 ";
-
-/// A fresh folder of one test's own.
-fn folder(name: &str) -> PathBuf {
-    let folder = Path::new(env!("CARGO_TARGET_TMPDIR")).join(format!("tool-{name}"));
-    let _ = fs::remove_dir_all(&folder);
-    fs::create_dir_all(&folder).expect("a folder for the test");
-    folder
-}
 
 fn run(folder: &Path, arguments: &[&str], input: &[u8]) -> Output {
     let mut child = common::program(env!("CARGO_BIN_EXE_usm_sheet"))
@@ -49,7 +43,7 @@ fn told(output: Output) -> (i32, String, String) {
 
 #[test]
 fn make_show_and_check_go_round() {
-    let folder = folder("round");
+    let folder = folder("tool-round");
     fs::write(folder.join("p1.txt"), VERTICAL).expect("a text");
     assert_eq!(told(run(&folder, &["make", "p1.txt", "p1.usm"], b"")), (0, String::new(), String::new()));
     assert_eq!(
@@ -68,7 +62,7 @@ fn make_show_and_check_go_round() {
 
 #[test]
 fn a_refused_sheet_is_told_in_a_sentence_and_by_the_status() {
-    let folder = folder("refused");
+    let folder = folder("tool-refused");
     fs::write(folder.join("short.txt"), VERTICAL.replace("1000000", "999999")).expect("a text");
     assert_eq!(told(run(&folder, &["make", "short.txt", "short.usm"], b"")).0, 0);
     let sentence =
@@ -81,7 +75,7 @@ fn a_refused_sheet_is_told_in_a_sentence_and_by_the_status() {
 
 #[test]
 fn standard_input_is_read_up_to_one_byte_too_many() {
-    let folder = folder("input");
+    let folder = folder("tool-input");
     for length in [0, 511, 39 * 512 + 1, 1 << 20] {
         let (status, line, _) = told(run(&folder, &["check", "-"], &vec![0; length]));
         assert_eq!((status, line.as_str()), (1, "REFUSE 1 0 0\n"), "{length} bytes");
@@ -92,7 +86,7 @@ fn standard_input_is_read_up_to_one_byte_too_many() {
 
 #[test]
 fn an_existing_file_stays_unless_forced() {
-    let folder = folder("force");
+    let folder = folder("tool-force");
     fs::write(folder.join("p1.txt"), VERTICAL).expect("a text");
     fs::write(folder.join("out.usm"), "mine").expect("a file");
     let kept = "usm_sheet: out.usm: is there already; --force overwrites it\n";
@@ -104,7 +98,7 @@ fn an_existing_file_stays_unless_forced() {
 
 #[test]
 fn bad_text_is_told_with_file_line_and_column_and_makes_nothing() {
-    let folder = folder("bad");
+    let folder = folder("tool-bad");
     fs::write(folder.join("bad.txt"), VERTICAL.replace("group 1 short 1 call", "group 1 short 1 cal"))
         .expect("a text");
     let message = "usm_sheet: bad.txt: line 7, column 19: expected `call` or `put`, found `cal`\n";
@@ -120,7 +114,7 @@ fn bad_text_is_told_with_file_line_and_column_and_makes_nothing() {
 
 #[test]
 fn what_is_no_sheet_file_cannot_be_shown() {
-    let folder = folder("show");
+    let folder = folder("tool-show");
     let (status, shown, message) = told(run(&folder, &["show", "-"], &[0; 512]));
     assert_eq!((status, shown.as_str()), (2, ""));
     assert!(message.starts_with("usm_sheet: -: refusal 3: block 0 is out of form"), "{message}");
@@ -131,7 +125,7 @@ fn what_is_no_sheet_file_cannot_be_shown() {
 
 #[test]
 fn commands_not_understood_are_told_the_usage() {
-    let folder = folder("usage");
+    let folder = folder("tool-usage");
     for arguments in
         [&[][..], &["make", "a"], &["check"], &["show", "a", "b"], &["check", "a", "--force"], &["--frob"]]
     {
@@ -146,7 +140,7 @@ fn commands_not_understood_are_told_the_usage() {
 
 #[test]
 fn the_sheet_in_the_help_is_one_that_make_reads() {
-    let folder = folder("help");
+    let folder = folder("tool-help");
     let example: String = usm::text::FORMAT
         .lines()
         .filter(|line| line.starts_with("  "))

@@ -1,10 +1,11 @@
 //! Makes sheet files from readable text, prints them back, and checks them.
 
-use std::fs::{File, OpenOptions};
+use std::fs::File;
 use std::io::{self, Read, Write};
 use std::process::ExitCode;
 
-use usm::{check_file, file_line, text, Accepted, Refusal, Sheet, LONGEST_FILE};
+use usm::block::LONGEST_FILE;
+use usm::{check_file, file_line, program, text, Accepted, Refusal, Sheet};
 
 const USAGE: &str = "\
 usage:
@@ -22,27 +23,18 @@ already is left alone unless --force is given. The exit status is 0 if all is we
 const LONGEST_TEXT: usize = 1 << 20;
 
 fn main() -> ExitCode {
-    let arguments: Vec<String> =
-        std::env::args_os().skip(1).map(|word| word.to_string_lossy().into_owned()).collect();
-    match run(&arguments) {
-        Ok(status) => status,
-        Err(message) => {
-            eprintln!("usm_sheet: {message}");
-            ExitCode::from(2)
-        }
-    }
+    program::run("usm_sheet", run)
 }
 
-fn run(arguments: &[String]) -> Result<ExitCode, String> {
-    let (options, words): (Vec<&str>, Vec<&str>) =
-        arguments.iter().map(String::as_str).partition(|word| word.starts_with("--"));
-    let force = options.contains(&"--force");
+fn run(arguments: &[&str]) -> Result<ExitCode, String> {
+    let (options, words): (Vec<&str>, Vec<&str>) = arguments.iter().partition(|word| word.starts_with("--"));
     match (words.as_slice(), options.as_slice()) {
-        (["make", text, out], [] | ["--force"]) => make(text, out, force),
+        (["make", text, out], []) => make(text, out, false),
+        (["make", text, out], ["--force"]) => make(text, out, true),
         (["show", file], []) => show(file),
         (["check", file], []) => check(file),
         (["help"], []) | ([], ["--help"]) => {
-            print(&format!("{USAGE}\n{}", text::FORMAT))?;
+            print(format!("{USAGE}\n{}", text::FORMAT).as_bytes())?;
             Ok(ExitCode::SUCCESS)
         }
         _ => Err(format!("the command was not understood\n{USAGE}")),
@@ -51,28 +43,34 @@ fn run(arguments: &[String]) -> Result<ExitCode, String> {
 
 fn make(text_name: &str, out_name: &str, force: bool) -> Result<ExitCode, String> {
     let bytes = read(text_name, LONGEST_TEXT)?;
+    if bytes.len() > LONGEST_TEXT {
+        return Err(format!("{text_name}: a text longer than {LONGEST_TEXT} bytes is no sheet"));
+    }
     let text = String::from_utf8(bytes).map_err(|error| {
-        let line =
-            1 + error.as_bytes()[..error.utf8_error().valid_up_to()].iter().filter(|&&b| b == b'\n').count();
+        let good = &error.as_bytes()[..error.utf8_error().valid_up_to()];
+        let line = 1 + good.iter().filter(|&&byte| byte == b'\n').count();
         format!("{text_name}: line {line}: expected text in UTF-8")
     })?;
     let sheet = text::parse(&text).map_err(|error| format!("{text_name}: {error}"))?;
     let file = sheet.to_file().map_err(|refusal| format!("{text_name}: {}", with_number(&refusal)))?;
-    write(out_name, &file, force)?;
+    match out_name {
+        "-" => print(&file)?,
+        _ => program::write(out_name.as_ref(), &file, force)?,
+    }
     Ok(ExitCode::SUCCESS)
 }
 
 fn show(name: &str) -> Result<ExitCode, String> {
     let file = read(name, LONGEST_FILE)?;
     let sheet = Sheet::from_file(&file).map_err(|refusal| format!("{name}: {}", with_number(&refusal)))?;
-    print(&text::show(&sheet))?;
+    print(text::show(&sheet).as_bytes())?;
     Ok(ExitCode::SUCCESS)
 }
 
 /// The line of `usm_check` for programs, and a sentence beside it for people.
 fn check(name: &str) -> Result<ExitCode, String> {
     let file = read(name, LONGEST_FILE)?;
-    print(&file_line(&file))?;
+    print(file_line(&file).as_bytes())?;
     match check_file(&file) {
         Ok(Accepted { groups, total }) => {
             eprintln!("{name}: accepted: groups {groups}, total margin {total} mills");
@@ -107,35 +105,10 @@ fn read(name: &str, most: usize) -> Result<Vec<u8>, String> {
     };
     let mut bytes = Vec::new();
     source.take(most as u64 + 1).read_to_end(&mut bytes).map_err(failed)?;
-    if most == LONGEST_TEXT && bytes.len() > most {
-        return Err(format!("{name}: a text longer than {most} bytes is no sheet"));
-    }
     Ok(bytes)
 }
 
-fn write(name: &str, bytes: &[u8], force: bool) -> Result<(), String> {
-    if name == "-" {
-        return print_bytes(bytes);
-    }
-    let mut options = OpenOptions::new();
-    options.write(true);
-    if force {
-        options.create(true).truncate(true);
-    } else {
-        options.create_new(true);
-    }
-    let failed = |error: io::Error| match error.kind() {
-        io::ErrorKind::AlreadyExists => format!("{name}: is there already; --force overwrites it"),
-        _ => format!("{name}: cannot be written: {error}"),
-    };
-    options.open(name).and_then(|mut out| out.write_all(bytes)).map_err(failed)
-}
-
-fn print(text: &str) -> Result<(), String> {
-    print_bytes(text.as_bytes())
-}
-
-fn print_bytes(bytes: &[u8]) -> Result<(), String> {
+fn print(bytes: &[u8]) -> Result<(), String> {
     let mut out = io::stdout().lock();
     out.write_all(bytes).and_then(|()| out.flush()).map_err(|error| format!("standard output: {error}"))
 }

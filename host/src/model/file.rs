@@ -43,7 +43,7 @@ pub fn parts(file: &[u8]) -> Result<Parts, Refusal> {
         }
         let table = &mut parts.by_kind[header.kind as usize - 1];
         table.extend_from_slice(&block[HEADER..header.records_end()]);
-        if table.len() > header.kind.most_records() * RECORD_BYTES {
+        if table.len() > header.kind.most_bytes() {
             return Err(out_of_form);
         }
         previous = Some(header);
@@ -84,20 +84,23 @@ fn may_follow(previous: Header, next: Header) -> bool {
 
 /// The length of the file these tables make.
 pub fn length(tables: &Tables) -> usize {
-    let blocks: usize = [tables.holdings, tables.placement, tables.claims]
-        .iter()
-        .map(|table| table.chunks(RECORDS_IN_BLOCK * RECORD_BYTES).len())
-        .sum();
-    blocks * BLOCK_BYTES
+    contents(tables).count() * BLOCK_BYTES
+}
+
+/// The kind and the records of each block.
+fn contents<'a>(tables: &Tables<'a>) -> impl Iterator<Item = (Table, &'a [u8])> {
+    let full = RECORDS_IN_BLOCK * RECORD_BYTES;
+    tables
+        .in_order()
+        .into_iter()
+        .flat_map(move |(kind, table)| table.chunks(full).map(move |records| (kind, records)))
 }
 
 /// Fills a buffer of just that length.
 pub fn fill(tables: &Tables, out: &mut [u8]) {
     let blocks = (out.len() / BLOCK_BYTES) as u16;
-    let contents = Table::ALL.into_iter().zip([tables.holdings, tables.placement, tables.claims]).flat_map(
-        |(kind, table)| table.chunks(RECORDS_IN_BLOCK * RECORD_BYTES).map(move |records| (kind, records)),
-    );
-    for (number, ((kind, records), block)) in contents.zip(out.chunks_exact_mut(BLOCK_BYTES)).enumerate() {
+    let places = out.chunks_exact_mut(BLOCK_BYTES);
+    for (number, ((kind, records), block)) in contents(tables).zip(places).enumerate() {
         block.fill(0);
         block[0..4].copy_from_slice(&MARK);
         block[4] = kind as u8;

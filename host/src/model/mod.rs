@@ -30,10 +30,7 @@ pub fn margin(placement: &[u8], g: u64) -> Result<i64, Refusal> {
 
 /// The margins of groups 1 to `n`, from `out[0]`.
 pub fn margins(placement: &[u8], n: u64, out: &mut [i64]) -> Result<usize, Refusal> {
-    let placement = tables::placement(placement)?;
-    let margins = (1..=n)
-        .map(|g| spread::of_group(&placement, g).map(|group| spread::margin(&group)))
-        .collect::<Result<Vec<i64>, Refusal>>()?;
+    let margins = spread::margins(&tables::placement(placement)?, n)?;
     let room = out.get_mut(..margins.len()).ok_or(Refusal::new(17, 0, n))?;
     room.copy_from_slice(&margins);
     Ok(margins.len())
@@ -75,13 +72,12 @@ pub fn read_file(
     let tables = parts.tables();
     tables.decode()?;
     let lent = [holdings, placement, claims];
-    let found = [tables.holdings, tables.placement, tables.claims];
-    for ((which, room), records) in Table::ALL.iter().zip(&lent).zip(&found) {
+    for (room, (which, records)) in lent.iter().zip(tables.in_order()) {
         if room.len() < records.len() {
             return Err(Refusal::new(17, which.number(), records.len() as u64));
         }
     }
-    for (room, records) in lent.into_iter().zip(&found) {
+    for (room, (_, records)) in lent.into_iter().zip(tables.in_order()) {
         room[..records.len()].copy_from_slice(records);
     }
     Ok(RecordCounts {

@@ -11,9 +11,7 @@ use crate::refusal::{Accepted, Refusal};
 pub fn judge(sheet: &Records) -> Result<Accepted, Refusal> {
     check_numbering(&sheet.placement, &sheet.claims)?;
     let groups = sheet.claims.len() as u64;
-    let margins = (1..=groups)
-        .map(|g| spread::of_group(&sheet.placement, g).map(|legs| spread::margin(&legs)))
-        .collect::<Result<Vec<i64>, Refusal>>()?;
+    let margins = spread::margins(&sheet.placement, groups)?;
     check_sums(&sheet.holdings, &sheet.placement)?;
     check_shorts_are_placed(&sheet.placement)?;
     check_claims(&sheet.claims, &margins)?;

@@ -94,3 +94,8 @@ pub fn worksheet(legs: &[Leg]) -> Vec<Row> {
 pub fn margin(legs: &[Leg]) -> i64 {
     worksheet(legs).iter().map(|row| -row.net).max().unwrap_or(0).max(0)
 }
+
+/// The margins of groups 1 to `n`, or the refusal of the lowest that is no spread.
+pub fn margins(placement: &[Leg], n: u64) -> Result<Vec<i64>, Refusal> {
+    (1..=n).map(|g| of_group(placement, g).map(|legs| margin(&legs))).collect()
+}

@@ -17,16 +17,19 @@ pub struct Records {
     pub claims: Vec<Claim>,
 }
 
-impl Tables<'_> {
+impl<'a> Tables<'a> {
+    /// All three with their numbers, in the order of a file.
+    pub fn in_order(&self) -> [(Table, &'a [u8]); 3] {
+        [(Table::Holdings, self.holdings), (Table::Placement, self.placement), (Table::Claims, self.claims)]
+    }
+
     /// Refusal 1 is about any of the three, before a single record is looked at.
     pub fn check_sizes(&self) -> Result<(), Refusal> {
-        check_size(Table::Holdings, self.holdings)?;
-        check_size(Table::Placement, self.placement)?;
-        check_size(Table::Claims, self.claims)
+        self.in_order().into_iter().try_for_each(|(which, table)| check_size(which, table))
     }
 
     pub fn are_empty(&self) -> bool {
-        self.holdings.is_empty() && self.placement.is_empty() && self.claims.is_empty()
+        self.in_order().iter().all(|(_, table)| table.is_empty())
     }
 
     /// 1, then 4 by table and record.

@@ -1,5 +1,6 @@
 //! A sheet as readable text. [`parse`] reads what [`show`] prints, to the same sheet.
 
+mod names;
 mod parse;
 mod show;
 mod words;

@@ -1,9 +1,10 @@
 //! From text to a sheet, with errors that say where and what was expected.
 
+use super::names::{MARKETS, SIDES, STYLES, TYPES};
 use super::words::{digits, TextError, Words};
 use crate::records::{
-    is_expiry, Claim, Leg, Market, OptionType, Side, Style, GREATEST_AMOUNT, GREATEST_STRIKE,
-    GREATEST_UNIT_SIZE, MOST_CLAIMS, MOST_CONTRACTS, MOST_LEGS,
+    is_expiry, Claim, Leg, Side, GREATEST_AMOUNT, GREATEST_STRIKE, GREATEST_UNIT_SIZE, MOST_CLAIMS,
+    MOST_CONTRACTS, MOST_LEGS,
 };
 use crate::sheet::Sheet;
 
@@ -62,28 +63,30 @@ fn record(section: Section, words: &mut Words, sheet: &mut Sheet) -> Result<(), 
     match section {
         Section::Start => Err(words.error("the section `holdings`, `placement` or `claims`")),
         Section::Holdings if sheet.holdings.len() == MOST_LEGS => {
-            Err(words.error("no more than 256 holdings"))
+            Err(words.error(&format!("no more than {MOST_LEGS} holdings")))
         }
         Section::Holdings => {
-            let side = words.side("`long` or `short`, or the section `placement` or `claims`")?;
+            let side = words.choose(SIDES, ", or the section `placement` or `claims`")?;
             sheet.holdings.push(leg(0, side, words)?);
             Ok(())
         }
         Section::Placement if sheet.placement.len() == MOST_LEGS => {
-            Err(words.error("no more than 256 records in the placement"))
+            Err(words.error(&format!("no more than {MOST_LEGS} records in the placement")))
         }
         Section::Placement => {
             let group = placed_group(words)?;
-            let side = words.side("`long` or `short`")?;
+            let side = words.choose(SIDES, "")?;
             sheet.placement.push(leg(group, side, words)?);
             Ok(())
         }
-        Section::Claims if sheet.claims.len() == MOST_CLAIMS => Err(words.error("no more than 32 claims")),
+        Section::Claims if sheet.claims.len() == MOST_CLAIMS => {
+            Err(words.error(&format!("no more than {MOST_CLAIMS} claims")))
+        }
         Section::Claims => {
-            words.word("claim", "`claim`")?;
-            let group = words.number("a group from 1 to 32", 1, MOST_CLAIMS as u64)? as u16;
-            let mills = "a margin in whole mills, as 1000000 for 1,000 dollars, up to 2560000000000000000";
-            let margin = words.number(mills, 0, GREATEST_AMOUNT as u64)? as i64;
+            words.word("claim")?;
+            let group = group(words)?;
+            let margin =
+                words.number("a margin in whole mills, 1000000 for 1,000 dollars,", 0..=GREATEST_AMOUNT)?;
             sheet.claims.push(Claim { group, margin });
             Ok(())
         }
@@ -91,28 +94,30 @@ fn record(section: Section, words: &mut Words, sheet: &mut Sheet) -> Result<(), 
 }
 
 fn placed_group(words: &mut Words) -> Result<u16, TextError> {
-    let expected = "`group` or `unplaced`, or the section `claims`";
-    if words.choose(expected, [("group", true), ("unplaced", false)])? {
-        Ok(words.number("a group from 1 to 32", 1, MOST_CLAIMS as u64)? as u16)
+    let placed = words.choose([("group", true), ("unplaced", false)], ", or the section `claims`")?;
+    if placed {
+        group(words)
     } else {
         Ok(0)
     }
 }
 
+fn group(words: &mut Words) -> Result<u16, TextError> {
+    words.number("a group", 1..=MOST_CLAIMS as u16)
+}
+
 /// What follows the side, in the order of the text.
 fn leg(group: u16, side: Side, words: &mut Words) -> Result<Leg, TextError> {
-    let contracts = words.number("contracts from 1 to 100000", 1, MOST_CONTRACTS.into())? as u32;
-    let option_type =
-        words.choose("`call` or `put`", [("call", OptionType::Call), ("put", OptionType::Put)])?;
+    let contracts = words.number("contracts", 1..=MOST_CONTRACTS)?;
+    let option_type = words.choose(TYPES, "")?;
     let strike = words.value("a strike in dollars from 0.001 to 99999.999", mills)?;
     let expiry = words.value("an expiry YYYY-MM-DD, a real date from 2000-01-01 to 2099-12-31", date)?;
-    words.word("unit", "`unit`")?;
-    let unit_size = words.number("a unit size from 1 to 1000", 1, GREATEST_UNIT_SIZE.into())? as u16;
-    words.word("underlying", "`underlying`")?;
-    let underlying = words.number("an underlying from 1 to 4294967295", 1, u32::MAX.into())? as u32;
-    let style = words
-        .choose("`american` or `european`", [("american", Style::American), ("european", Style::European)])?;
-    let market = words.choose("`listed` or `otc`", [("listed", Market::Listed), ("otc", Market::Otc)])?;
+    words.word("unit")?;
+    let unit_size = words.number("a unit size", 1..=GREATEST_UNIT_SIZE)?;
+    words.word("underlying")?;
+    let underlying = words.number("an underlying", 1..=u32::MAX)?;
+    let style = words.choose(STYLES, "")?;
+    let market = words.choose(MARKETS, "")?;
     Ok(Leg { group, side, option_type, style, market, unit_size, underlying, strike, expiry, contracts })
 }
 
@@ -188,8 +193,8 @@ mod tests {
         );
         assert_eq!(
             error_of("claims\nclaim 1 1000.00"),
-            "line 2, column 9: expected a margin in whole mills, as 1000000 for 1,000 dollars, \
-             up to 2560000000000000000, found `1000.00`"
+            "line 2, column 9: expected a margin in whole mills, 1000000 for 1,000 dollars, \
+             from 0 to 2560000000000000000, found `1000.00`"
         );
         assert_eq!(
             error_of("claims\nholdings\n"),

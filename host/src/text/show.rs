@@ -2,7 +2,8 @@
 
 use std::fmt::Write;
 
-use crate::records::{Leg, Market, OptionType, Side, Style};
+use super::names::{name_of, MARKETS, SIDES, STYLES, TYPES};
+use crate::records::Leg;
 use crate::sheet::Sheet;
 
 /// The sheet as text, in the format [`super::FORMAT`] tells of.
@@ -40,15 +41,9 @@ fn line(text: &mut String, words: String) {
 fn leg_words(leg: &Leg) -> String {
     format!(
         "{:<5} {} {:<4} {}.{:03} {:04}-{:02}-{:02} unit {} underlying {} {} {}",
-        match leg.side {
-            Side::Long => "long",
-            Side::Short => "short",
-        },
+        name_of(leg.side, SIDES),
         leg.contracts,
-        match leg.option_type {
-            OptionType::Call => "call",
-            OptionType::Put => "put",
-        },
+        name_of(leg.option_type, TYPES),
         leg.strike / 1_000,
         leg.strike % 1_000,
         leg.expiry / 10_000,
@@ -56,13 +51,7 @@ fn leg_words(leg: &Leg) -> String {
         leg.expiry % 100,
         leg.unit_size,
         leg.underlying,
-        match leg.style {
-            Style::American => "american",
-            Style::European => "european",
-        },
-        match leg.market {
-            Market::Listed => "listed",
-            Market::Otc => "otc",
-        },
+        name_of(leg.style, STYLES),
+        name_of(leg.market, MARKETS),
     )
 }

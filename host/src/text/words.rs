@@ -1,9 +1,10 @@
 //! A line of text as words, and the error that tells where one is wrong.
 
 use std::error::Error;
-use std::fmt;
+use std::fmt::{self, Display};
+use std::ops::RangeInclusive;
 
-use crate::records::Side;
+use super::names::Names;
 
 /// Where a text is no sheet, and what was expected there. Lines and columns count from 1.
 #[derive(Clone, Debug, PartialEq, Eq)]
@@ -15,7 +16,7 @@ pub struct TextError {
     pub found: Option<String>,
 }
 
-impl fmt::Display for TextError {
+impl Display for TextError {
     fn fmt(&self, f: &mut fmt::Formatter<'_>) -> fmt::Result {
         write!(f, "line {}, column {}: expected {}, ", self.line, self.column, self.expected)?;
         match &self.found {
@@ -76,20 +77,26 @@ impl<'a> Words<'a> {
         Ok(value)
     }
 
-    pub fn number(&mut self, expected: &str, least: u64, greatest: u64) -> Result<u64, TextError> {
-        self.value(expected, |word| digits(word).filter(|number| (least..=greatest).contains(number)))
+    /// A number in a range, of the type that the range has.
+    pub fn number<T>(&mut self, what: &str, range: RangeInclusive<T>) -> Result<T, TextError>
+    where
+        T: TryFrom<u64> + PartialOrd + Display,
+    {
+        let expected = format!("{what} from {} to {}", range.start(), range.end());
+        self.value(&expected, |word| {
+            digits(word).and_then(|number| T::try_from(number).ok()).filter(|number| range.contains(number))
+        })
     }
 
-    pub fn choose<T: Copy>(&mut self, expected: &str, choices: [(&str, T); 2]) -> Result<T, TextError> {
-        self.value(expected, |word| choices.iter().find(|(name, _)| *name == word).map(|(_, value)| *value))
+    /// One of two words; `or_else` tells what else the line might have started with.
+    pub fn choose<T: Copy>(&mut self, names: Names<T>, or_else: &str) -> Result<T, TextError> {
+        let expected = format!("`{}` or `{}`{or_else}", names[0].0, names[1].0);
+        self.value(&expected, |word| names.iter().find(|(name, _)| *name == word).map(|(_, value)| *value))
     }
 
-    pub fn side(&mut self, expected: &str) -> Result<Side, TextError> {
-        self.choose(expected, [("long", Side::Long), ("short", Side::Short)])
-    }
-
-    pub fn word(&mut self, name: &str, expected: &str) -> Result<(), TextError> {
-        self.value(expected, |word| (word == name).then_some(()))
+    /// Just this word.
+    pub fn word(&mut self, name: &str) -> Result<(), TextError> {
+        self.value(&format!("`{name}`"), |word| (word == name).then_some(()))
     }
 
     pub fn end(&self) -> Result<(), TextError> {

@@ -1,15 +1,15 @@
 //! Each call of the library against the model: the four numbers of the answer, and the
 //! whole content of every lent buffer. The raw C interface is called, with guards.
 
-use std::fmt::Display;
+use std::fmt::{Debug, Display};
 
-use usm::{ffi, model, Refusal, Table};
+use usm::ffi::{self, Answer, LINE_BYTES};
+use usm::{model, Refusal, Table, Tables, RECORD_BYTES};
 
-use crate::lent::{Answer, Lent};
-use crate::sheets::Tables;
+use crate::lent::{answer_of, Lent};
 
 /// The four numbers a result stands for.
-fn numbers<T: Copy>(result: &Result<T, Refusal>, of_success: impl Fn(T) -> [u64; 3]) -> [u64; 4] {
+fn numbers<T: Copy>(result: &Result<T, Refusal>, of_success: impl Fn(T) -> [u64; 3]) -> Answer {
     match result {
         Ok(success) => {
             let [first, second, third] = of_success(*success);
@@ -20,25 +20,22 @@ fn numbers<T: Copy>(result: &Result<T, Refusal>, of_success: impl Fn(T) -> [u64;
 }
 
 /// Fails unless the library's answer is the model's; hands back the refusal number or 0.
-fn same(case: &dyn Display, call: &str, library: &Answer, model: [u64; 4]) -> u64 {
-    assert_eq!(library.numbers(), Some(model), "{case}: {call}: library (left) and model (right) differ");
+fn same(case: &dyn Display, call: &str, library: Option<Answer>, model: Answer) -> u64 {
+    assert_eq!(library, Some(model), "{case}: {call}: library (left) and model (right) differ");
     model[0]
 }
 
 /// Fails unless a lent buffer holds what the model made of it, and no more was written.
 fn same_buffer<T>(case: &dyn Display, call: &str, library: &Lent<T>, model: &Lent<T>, output: usize)
 where
-    T: Copy + From<u8> + PartialEq + std::fmt::Debug,
+    T: Copy + From<u8> + PartialEq + Debug,
 {
-    assert!(model.stayed_past(output), "{case}: {call}: the model wrote past its output");
-    assert!(library.stayed_past(output), "{case}: {call}: the library wrote past its output of {output}");
     assert!(library == model, "{case}: {call}: buffers differ\nlibrary {library:?}\nmodel   {model:?}");
+    assert!(model.stayed_past(output), "{case}: {call}: both wrote past their output of {output}");
 }
 
 pub fn check_table(case: &dyn Display, kind: u64, table: &[u8]) -> u64 {
-    let mut answer = Answer::unwritten();
-    // SAFETY: slices and the answer are valid for their lengths, here and in all calls below.
-    unsafe { ffi::usm_check_table(kind, table.as_ptr(), table.len(), answer.pointer()) };
+    let answer = answer_of(|answer| ffi::check_table(kind, table, answer));
     let expected = match Table::ALL.iter().find(|which| which.number() == kind) {
         Some(which) => model::check_table(*which, table),
         None => Err(Refusal::new(1, 0, 0)),
@@ -46,192 +43,91 @@ pub fn check_table(case: &dyn Display, kind: u64, table: &[u8]) -> u64 {
     same(
         case,
         &format!("usm_check_table {kind}"),
-        &answer,
+        answer,
         numbers(&expected, |records| [records as u64, 0, 0]),
     )
 }
 
 pub fn margin(case: &dyn Display, placement: &[u8], g: u64) -> u64 {
-    let mut answer = Answer::unwritten();
-    unsafe { ffi::usm_margin(placement.as_ptr(), placement.len(), g, answer.pointer()) };
+    let answer = answer_of(|answer| ffi::margin(placement, g, answer));
     let expected = model::margin(placement, g);
-    same(case, &format!("usm_margin {g}"), &answer, numbers(&expected, |margin| [margin as u64, 0, 0]))
+    same(case, &format!("usm_margin {g}"), answer, numbers(&expected, |margin| [margin as u64, 0, 0]))
 }
 
 pub fn margins(case: &dyn Display, placement: &[u8], n: u64, room: usize) -> u64 {
     let call = format!("usm_margins {n}, room {room}");
-    let (mut answer, mut out) = (Answer::unwritten(), Lent::of_length(room));
+    let mut out = Lent::of_length(room);
     let mut expected_out = out.clone();
-    let lent = out.slice();
-    unsafe {
-        let (pointer, length) = (lent.as_mut_ptr(), lent.len());
-        ffi::usm_margins(placement.as_ptr(), placement.len(), n, pointer, length, answer.pointer());
-    }
+    let answer = answer_of(|answer| ffi::margins(placement, n, out.slice(), answer));
     let expected = model::margins(placement, n, expected_out.slice());
     same_buffer(case, &call, &out, &expected_out, expected.unwrap_or(0));
-    same(case, &call, &answer, numbers(&expected, |groups| [groups as u64, 0, 0]))
+    same(case, &call, answer, numbers(&expected, |groups| [groups as u64, 0, 0]))
 }
 
 pub fn worksheet(case: &dyn Display, placement: &[u8], g: u64, strikes_room: usize, nets_room: usize) -> u64 {
     let call = format!("usm_worksheet {g}, rooms {strikes_room} and {nets_room}");
-    let mut answer = Answer::unwritten();
     let (mut strikes, mut nets) = (Lent::of_length(strikes_room), Lent::of_length(nets_room));
     let (mut expected_strikes, mut expected_nets) = (strikes.clone(), nets.clone());
-    let (lent_strikes, lent_nets) = (strikes.slice(), nets.slice());
-    unsafe {
-        ffi::usm_worksheet(
-            placement.as_ptr(),
-            placement.len(),
-            g,
-            lent_strikes.as_mut_ptr(),
-            lent_strikes.len(),
-            lent_nets.as_mut_ptr(),
-            lent_nets.len(),
-            answer.pointer(),
-        );
-    }
+    let answer = answer_of(|answer| ffi::worksheet(placement, g, strikes.slice(), nets.slice(), answer));
     let expected = model::worksheet(placement, g, expected_strikes.slice(), expected_nets.slice());
     let output = expected.unwrap_or(0);
     same_buffer(case, &call, &strikes, &expected_strikes, output);
     same_buffer(case, &call, &nets, &expected_nets, output);
-    same(case, &call, &answer, numbers(&expected, |rows| [rows as u64, 0, 0]))
+    same(case, &call, answer, numbers(&expected, |rows| [rows as u64, 0, 0]))
 }
 
 pub fn check_sheet(case: &dyn Display, tables: &Tables) -> u64 {
     let Tables { holdings, placement, claims } = tables;
-    let mut answer = Answer::unwritten();
-    unsafe {
-        ffi::usm_check_sheet(
-            holdings.as_ptr(),
-            holdings.len(),
-            placement.as_ptr(),
-            placement.len(),
-            claims.as_ptr(),
-            claims.len(),
-            answer.pointer(),
-        );
-    }
+    let answer = answer_of(|answer| ffi::check_sheet(holdings, placement, claims, answer));
     let expected = model::check_sheet(holdings, placement, claims);
-    same(case, "usm_check_sheet", &answer, numbers(&expected, |sheet| [sheet.groups, sheet.total as u64, 0]))
+    same(case, "usm_check_sheet", answer, numbers(&expected, |sheet| [sheet.groups, sheet.total as u64, 0]))
 }
 
 pub fn write_file(case: &dyn Display, tables: &Tables, room: usize) -> u64 {
     let Tables { holdings, placement, claims } = tables;
     let call = format!("usm_write_file, room {room}");
-    let (mut answer, mut out) = (Answer::unwritten(), Lent::of_length(room));
+    let mut out = Lent::of_length(room);
     let mut expected_out = out.clone();
-    let lent = out.slice();
-    unsafe {
-        ffi::usm_write_file(
-            holdings.as_ptr(),
-            holdings.len(),
-            placement.as_ptr(),
-            placement.len(),
-            claims.as_ptr(),
-            claims.len(),
-            lent.as_mut_ptr(),
-            lent.len(),
-            answer.pointer(),
-        );
-    }
+    let answer = answer_of(|answer| ffi::write_file(holdings, placement, claims, out.slice(), answer));
     let expected = model::write_file(holdings, placement, claims, expected_out.slice());
     same_buffer(case, &call, &out, &expected_out, expected.unwrap_or(0));
-    same(case, &call, &answer, numbers(&expected, |length| [length as u64, 0, 0]))
+    same(case, &call, answer, numbers(&expected, |length| [length as u64, 0, 0]))
 }
 
 pub fn check_file(case: &dyn Display, file: &[u8]) -> u64 {
-    let mut answer = Answer::unwritten();
-    unsafe { ffi::usm_check_file(file.as_ptr(), file.len(), answer.pointer()) };
+    let answer = answer_of(|answer| ffi::check_file(file, answer));
     let expected = model::check_file(file);
-    same(case, "usm_check_file", &answer, numbers(&expected, |sheet| [sheet.groups, sheet.total as u64, 0]))
+    same(case, "usm_check_file", answer, numbers(&expected, |sheet| [sheet.groups, sheet.total as u64, 0]))
 }
 
 pub fn read_file(case: &dyn Display, file: &[u8], rooms: [usize; 3]) -> u64 {
     let call = format!("usm_read_file, rooms {rooms:?}");
-    let mut answer = Answer::unwritten();
-    let mut lent = rooms.map(Lent::<u8>::of_length);
+    let mut lent = rooms.map(Lent::of_length);
     let mut expected_lent = lent.clone();
     let [holdings, placement, claims] = &mut lent;
-    let (holdings, placement, claims) = (holdings.slice(), placement.slice(), claims.slice());
-    unsafe {
-        ffi::usm_read_file(
-            file.as_ptr(),
-            file.len(),
-            holdings.as_mut_ptr(),
-            holdings.len(),
-            placement.as_mut_ptr(),
-            placement.len(),
-            claims.as_mut_ptr(),
-            claims.len(),
-            answer.pointer(),
-        );
-    }
+    let answer =
+        answer_of(|answer| ffi::read_file(file, holdings.slice(), placement.slice(), claims.slice(), answer));
     let [holdings, placement, claims] = &mut expected_lent;
     let expected = model::read_file(file, holdings.slice(), placement.slice(), claims.slice());
     let outputs = expected.map_or([0; 3], |counts| [counts.holdings, counts.placement, counts.claims]);
     for ((library, model), records) in lent.iter().zip(&expected_lent).zip(outputs) {
-        same_buffer(case, &call, library, model, records * 32);
+        same_buffer(case, &call, library, model, records * RECORD_BYTES);
     }
     same(
         case,
         &call,
-        &answer,
+        answer,
         numbers(&expected, |counts| [counts.holdings as u64, counts.placement as u64, counts.claims as u64]),
     )
 }
 
 pub fn file_line(case: &dyn Display, file: &[u8]) {
-    let mut line = Lent::<u8>::of_length(64);
-    let length = unsafe { ffi::usm_file_line(file.as_ptr(), file.len(), line.slice().as_mut_ptr()) };
+    let mut line = Lent::of_length(LINE_BYTES);
+    let lent = line.slice().try_into().expect("just the bytes of a line");
+    let length = ffi::file_line(file, lent);
     let expected = model::file_line(file);
-    assert!(length <= 64, "{case}: usm_file_line answers the length {length}");
+    assert!(length <= LINE_BYTES, "{case}: usm_file_line answers the length {length}");
     assert!(line.stayed_past(length), "{case}: usm_file_line wrote past its line");
     let found = String::from_utf8_lossy(&line.slice()[..length]).into_owned();
     assert_eq!(found, expected, "{case}: usm_file_line: library (left) and model (right) differ");
-}
-
-/// The safe wrapper answers as the model does, too.
-pub fn wrapper(case: &dyn Display, tables: &Tables, file: &[u8], g: u64) {
-    let Tables { holdings, placement, claims } = tables;
-    assert_eq!(
-        usm::check_table(Table::Placement, placement),
-        model::check_table(Table::Placement, placement),
-        "{case}: check_table"
-    );
-    assert_eq!(usm::margin(placement, g), model::margin(placement, g), "{case}: margin {g}");
-    let (mut ours, mut theirs) = ([-1; 32], [-1; 32]);
-    assert_eq!(
-        usm::margins(placement, g, &mut ours),
-        model::margins(placement, g, &mut theirs),
-        "{case}: margins {g}"
-    );
-    assert_eq!(ours, theirs, "{case}: margins {g}");
-    let (mut strikes, mut nets) = ([[1; 8]; 2], [[-1; 8]; 2]);
-    let [strikes_here, strikes_there] = &mut strikes;
-    let [nets_here, nets_there] = &mut nets;
-    assert_eq!(
-        usm::worksheet(placement, g, strikes_here, nets_here),
-        model::worksheet(placement, g, strikes_there, nets_there),
-        "{case}: worksheet {g}"
-    );
-    assert_eq!((strikes[0], nets[0]), (strikes[1], nets[1]), "{case}: worksheet {g}");
-    let verdict = model::check_sheet(holdings, placement, claims);
-    assert_eq!(usm::check_sheet(holdings, placement, claims), verdict, "{case}: check_sheet");
-    assert_eq!(usm::check_file(file), model::check_file(file), "{case}: check_file");
-    assert_eq!(usm::file_line(file), model::file_line(file), "{case}: file_line");
-    let (mut ours, mut theirs) = (vec![1; usm::LONGEST_FILE], vec![1; usm::LONGEST_FILE]);
-    assert_eq!(
-        usm::write_file(holdings, placement, claims, &mut ours),
-        model::write_file(holdings, placement, claims, &mut theirs),
-        "{case}: write_file"
-    );
-    assert!(ours == theirs, "{case}: write_file");
-    let mut rooms = [[[1; 200]; 3]; 2];
-    let [[h, p, c], [other_h, other_p, other_c]] = &mut rooms;
-    assert_eq!(
-        usm::read_file(file, h, p, c),
-        model::read_file(file, other_h, other_p, other_c),
-        "{case}: read_file"
-    );
-    assert!(rooms[0] == rooms[1], "{case}: read_file");
 }

@@ -1,39 +1,10 @@
 //! Faults in tables: each one is small, and two of them try the order of refusals.
 
-use usm::{Claim, Leg, Market, OptionType, Side, Style, RECORD_BYTES};
+use usm::accounts::{in_group, leg};
+use usm::{Claim, Tables, GREATEST_AMOUNT, MOST_CLAIMS, MOST_LEGS, RECORD_BYTES};
 
+use crate::fields::*;
 use crate::random::Random;
-use crate::sheets::Tables;
-
-/// Where a field stands in a record: offset and width in bytes.
-type Field = (usize, usize);
-
-const GROUP: Field = (0, 2);
-const SIDE: Field = (2, 1);
-const TYPE: Field = (3, 1);
-const STYLE: Field = (4, 1);
-const MARKET: Field = (5, 1);
-const UNIT_SIZE: Field = (6, 2);
-const UNDERLYING: Field = (8, 4);
-const STRIKE: Field = (12, 4);
-const EXPIRY: Field = (16, 4);
-const CONTRACTS: Field = (20, 4);
-const FILLER: Field = (24, 8);
-const CLAIM_MARGIN: Field = (8, 8);
-
-fn records(table: &[u8]) -> usize {
-    table.len() / RECORD_BYTES
-}
-
-fn get(table: &[u8], record: usize, (at, width): Field) -> u64 {
-    let start = record * RECORD_BYTES + at;
-    table[start..start + width].iter().rev().fold(0, |value, &byte| value << 8 | u64::from(byte))
-}
-
-fn put(table: &mut [u8], record: usize, (at, width): Field, value: u64) {
-    let start = record * RECORD_BYTES + at;
-    table[start..start + width].copy_from_slice(&value.to_le_bytes()[..width]);
-}
 
 /// Makes one fault. Some choices leave a small sheet as it is, and some changes are
 /// harmless: the model knows.
@@ -77,19 +48,21 @@ fn wrong_size(random: &mut Random, tables: &mut Tables) {
         1 => table.extend((0..1 + random.below(31)).map(|_| 0)),
         2 => {
             let record = first_record_or(table, &[0; RECORD_BYTES]);
-            while records(table) < 257 {
-                table.extend_from_slice(&record);
-            }
+            fill_up(table, MOST_LEGS + 1, &record);
         }
         _ => {
             // Up to the limit of claims and one past it.
             let record = first_record_or(table, &Claim { group: 1, margin: 0 }.to_bytes());
-            let count = 32 + random.below(2);
+            let count = MOST_CLAIMS + random.below(2);
             table.truncate(count * RECORD_BYTES);
-            while records(table) < count {
-                table.extend_from_slice(&record);
-            }
+            fill_up(table, count, &record);
         }
+    }
+}
+
+fn fill_up(table: &mut Vec<u8>, count: usize, record: &[u8]) {
+    while records(table) < count {
+        table.extend_from_slice(record);
     }
 }
 
@@ -100,51 +73,7 @@ fn first_record_or(table: &[u8], otherwise: &[u8]) -> Vec<u8> {
 /// Refusal 4: a field just past its range, or far past it.
 fn out_of_range(random: &mut Random, tables: &mut Tables) {
     let in_claims = random.one_in(4);
-    let (field, value) = if in_claims {
-        random.pick(&[
-            (GROUP, 0),
-            (GROUP, 33),
-            (GROUP, 0x0101),
-            ((2, 6), 1),
-            ((2, 6), 1 << 40),
-            (CLAIM_MARGIN, 2_560_000_000_000_000_001),
-            (CLAIM_MARGIN, u64::MAX),
-            (CLAIM_MARGIN, 1 << 63),
-            ((16, 8), 1),
-            ((24, 8), 1 << 56),
-        ])
-    } else {
-        random.pick(&[
-            (GROUP, 33),
-            (GROUP, 0x0100),
-            (GROUP, 1),
-            (SIDE, 0),
-            (SIDE, 3),
-            (TYPE, 0),
-            (TYPE, 3),
-            (STYLE, 0),
-            (STYLE, 255),
-            (MARKET, 0),
-            (MARKET, 3),
-            (UNIT_SIZE, 0),
-            (UNIT_SIZE, 1_001),
-            (UNDERLYING, 0),
-            (STRIKE, 0),
-            (STRIKE, 100_000_000),
-            (EXPIRY, 19991231),
-            (EXPIRY, 21000101),
-            (EXPIRY, 20110229),
-            (EXPIRY, 20110431),
-            (EXPIRY, 20110500),
-            (EXPIRY, 20111301),
-            (EXPIRY, 20110001),
-            (EXPIRY, 0),
-            (CONTRACTS, 0),
-            (CONTRACTS, 100_001),
-            (FILLER, 1),
-            (FILLER, 1 << 63),
-        ])
-    };
+    let (field, value) = if in_claims { random.pick(&BAD_IN_CLAIMS) } else { random.pick(&BAD_IN_LEGS) };
     let table = if in_claims { &mut tables.claims } else { leg_table_of(random, tables) };
     if records(table) > 0 {
         let record = random.below(records(table));
@@ -152,7 +81,7 @@ fn out_of_range(random: &mut Random, tables: &mut Tables) {
     }
 }
 
-/// Refusal 5 and 6: claims out of order, one too few or too many.
+/// Refusals 5 and 6: claims out of order, one too few or too many.
 fn numbering(random: &mut Random, tables: &mut Tables) {
     let count = records(&tables.claims);
     match random.below(4) {
@@ -221,7 +150,7 @@ fn other_group(random: &mut Random, tables: &mut Tables) {
     put(&mut tables.placement, record, GROUP, group);
 }
 
-/// Refusal 10: a leg takes over the series of another one of its group.
+/// Refusal 10: a leg takes over the series of another, which may be of its own group.
 fn doubled_series(random: &mut Random, tables: &mut Tables) {
     let count = records(&tables.placement);
     if count < 2 {
@@ -261,23 +190,11 @@ fn whole_record(random: &mut Random, tables: &mut Tables) {
 
 /// Refusal 15: a short in both tables that no group takes.
 fn unplace(random: &mut Random, tables: &mut Tables) {
-    let short = Leg {
-        group: 0,
-        side: Side::Short,
-        option_type: OptionType::Put,
-        style: Style::American,
-        market: Market::Listed,
-        unit_size: 100,
-        underlying: 7,
-        strike: 60_000,
-        expiry: 20110521,
-        contracts: 1,
-    };
+    let short = in_group(0, leg("S60p")).to_bytes();
     let at = random.below(records(&tables.placement) + 1) * RECORD_BYTES;
-    let at = at.min(tables.placement.len());
-    tables.placement.splice(at..at, short.to_bytes());
+    tables.placement.splice(at..at, short);
     if !random.one_in(4) {
-        tables.holdings.extend_from_slice(&short.to_bytes());
+        tables.holdings.extend_from_slice(&short);
     }
 }
 
@@ -290,21 +207,13 @@ fn other_claim(random: &mut Random, tables: &mut Tables) {
     let record = random.below(count);
     let old = get(&tables.claims, record, CLAIM_MARGIN);
     let new =
-        random.pick(&[old.wrapping_add(1), old.wrapping_sub(1), 0, 2_560_000_000_000_000_000, old ^ 1 << 40]);
+        random.pick(&[old.wrapping_add(1), old.wrapping_sub(1), 0, GREATEST_AMOUNT as u64, old ^ 1 << 40]);
     put(&mut tables.claims, record, CLAIM_MARGIN, new);
 }
 
-/// Values at the ends of their ranges, which are good.
+/// No fault at all, unless it is one for the rules: a value at the end of its range is good.
 fn at_the_limit(random: &mut Random, tables: &mut Tables) {
-    let (field, value) = random.pick(&[
-        (CONTRACTS, 100_000),
-        (UNIT_SIZE, 1_000),
-        (STRIKE, 99_999_999),
-        (STRIKE, 1),
-        (EXPIRY, 20991231),
-        (EXPIRY, 20120229),
-        (UNDERLYING, 0xFFFF_FFFF),
-    ]);
+    let (field, value) = random.pick(&AT_THE_LIMIT);
     let count = records(&tables.placement).min(records(&tables.holdings));
     if count > 0 {
         let record = random.below(count);

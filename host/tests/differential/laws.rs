@@ -4,7 +4,7 @@
 use std::collections::BTreeMap;
 use std::fmt::Display;
 
-use usm::{Leg, OptionType, Sheet, Side};
+use usm::{Claim, Leg, OptionType, Sheet, Side};
 
 use crate::random::Random;
 
@@ -16,10 +16,9 @@ fn value(leg: &Leg, n: i128, d: i128) -> i128 {
         OptionType::Put => (strike - n).max(0),
     };
     let worth = i128::from(leg.units()) * intrinsic;
-    if leg.side == Side::Long {
-        worth
-    } else {
-        -worth
+    match leg.side {
+        Side::Long => worth,
+        Side::Short => -worth,
     }
 }
 
@@ -47,11 +46,12 @@ pub fn margins_cover_every_price(case: &dyn Display, random: &mut Random, sheet:
     }
 }
 
-/// No margin is larger than it must be: it is 0, or the loss at some strike.
+/// No margin of an accepted sheet is larger than it must be: it is 0, or the loss at some
+/// strike.
 pub fn margins_are_reached(case: &dyn Display, sheet: &Sheet) {
-    for claim in &sheet.claims {
-        let g = u64::from(claim.group);
-        let worst = sheet.worksheet(g).expect("a spread").iter().map(|(_, net)| -net).max();
-        assert_eq!(sheet.margin(g), Ok(worst.unwrap_or(0).max(0)), "{case}: group {g}");
+    for Claim { group, margin } in &sheet.claims {
+        let worksheet = sheet.worksheet(u64::from(*group)).expect("a spread");
+        let reached = *margin == 0 || worksheet.iter().any(|(_, net)| -net == *margin);
+        assert!(reached, "{case}: group {group}: {margin} is the loss at no strike of {worksheet:?}");
     }
 }

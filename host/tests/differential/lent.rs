@@ -1,6 +1,6 @@
 //! Lent buffers that notice every write: guards before and behind, all in a pattern.
 
-use std::fmt::Debug;
+use usm::ffi::Answer;
 
 const GUARD: usize = 40;
 
@@ -10,9 +10,14 @@ pub struct Lent<T> {
     entries: Vec<T>,
 }
 
-impl<T: Copy + From<u8> + PartialEq + Debug> Lent<T> {
+/// The entries of a fresh buffer. They come round after 251, a prime: what is copied within
+/// the buffer by whole records or blocks shows, too.
+fn pattern<T: From<u8>>(index: usize) -> T {
+    T::from((index * 37 % 251) as u8 ^ 0xA5)
+}
+
+impl<T: Copy + From<u8> + PartialEq> Lent<T> {
     pub fn of_length(length: usize) -> Lent<T> {
-        let pattern = |index: usize| T::from((index * 37 % 251) as u8 ^ 0xA5);
         Lent { entries: (0..GUARD + length + GUARD).map(pattern).collect() }
     }
 
@@ -23,31 +28,18 @@ impl<T: Copy + From<u8> + PartialEq + Debug> Lent<T> {
 
     /// Whether everything from `output` entries on, and the guards, are still the pattern.
     pub fn stayed_past(&self, output: usize) -> bool {
-        let fresh = Lent::of_length(self.entries.len() - 2 * GUARD);
-        self.entries[..GUARD] == fresh.entries[..GUARD]
-            && self.entries[GUARD + output..] == fresh.entries[GUARD + output..]
+        let stayed = |index: usize| self.entries[index] == pattern(index);
+        (0..GUARD).all(stayed) && (GUARD + output..self.entries.len()).all(stayed)
     }
 }
 
-/// Four numbers for an answer, between guards, none of which an answer ever holds.
-pub struct Answer {
-    numbers: [u64; 6],
-}
-
+/// What no answer ever holds.
 const UNWRITTEN: u64 = 0xFEED_FACE_CAFE_BEEF;
 
-impl Answer {
-    pub fn unwritten() -> Answer {
-        Answer { numbers: [UNWRITTEN; 6] }
-    }
-
-    pub fn pointer(&mut self) -> *mut u64 {
-        self.numbers[1..5].as_mut_ptr()
-    }
-
-    /// The four numbers, if the guards stayed.
-    pub fn numbers(&self) -> Option<[u64; 4]> {
-        let [before, numbers @ .., behind] = self.numbers;
-        (before == UNWRITTEN && behind == UNWRITTEN).then_some(numbers)
-    }
+/// The four numbers that a call makes its answer, if the guards around them stayed.
+pub fn answer_of(call: impl FnOnce(&mut Answer)) -> Option<Answer> {
+    let mut numbers = [UNWRITTEN; 6];
+    call((&mut numbers[1..5]).try_into().expect("four numbers"));
+    let [before, answer @ .., behind] = numbers;
+    (before == UNWRITTEN && behind == UNWRITTEN).then_some(answer)
 }

@@ -1,9 +1,9 @@
 //! Tables made of chance: bytes without sense, and worlds too small to be sensible.
 
-use usm::{leg_table, model, Claim, Leg, Market, OptionType, Sheet, Side, Style, RECORD_BYTES};
+use usm::accounts::in_group;
+use usm::{leg_table, model, Claim, Leg, Market, OptionType, Sheet, Side, Style, Tables, RECORD_BYTES};
 
 use crate::random::Random;
-use crate::sheets::Tables;
 
 /// Bytes without sense: of any length, random or mostly zero.
 pub fn garbage(random: &mut Random) -> Tables {
@@ -46,16 +46,17 @@ pub fn tiny_world(random: &mut Random) -> Tables {
                 Leg { group, side: Side::Short, option_type, unit_size, contracts, ..placement[at] };
         }
     }
-    let mut holdings: Vec<Leg> = placement.iter().map(|leg| Leg { group: 0, ..*leg }).collect();
+    let mut holdings: Vec<Leg> = placement.iter().map(|leg| in_group(0, *leg)).collect();
     random.shuffle(&mut holdings);
     if random.one_in(6) && !holdings.is_empty() {
         let at = random.below(holdings.len());
-        holdings[at] = Leg { group: 0, ..leg(random) };
+        holdings[at] = in_group(0, leg(random));
     }
-    let claims = (1..=groups).map(|group| {
+    let mut claims = Vec::new();
+    for group in 1..=groups {
         let by_model = model::margin(&leg_table(&placement), u64::from(group));
-        Claim { group, margin: if random.one_in(4) { 1_000 } else { by_model.unwrap_or(0) } }
-    });
-    let claims = claims.collect();
-    Tables::of(&Sheet { holdings, placement, claims })
+        let margin = if random.one_in(4) { 1_000 } else { by_model.unwrap_or(0) };
+        claims.push(Claim { group, margin });
+    }
+    Sheet { holdings, placement, claims }.tables()
 }

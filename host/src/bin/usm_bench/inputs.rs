@@ -1,49 +1,29 @@
 //! The sheets that are timed.
 
-use usm::{claim_table, leg_table, Claim, Leg, Market, OptionType, Sheet, Side, Style};
-
-/// A sheet as the bytes the calls take.
-#[derive(Clone)]
-pub struct Tables {
-    pub holdings: Vec<u8>,
-    pub placement: Vec<u8>,
-    pub claims: Vec<u8>,
-}
+use usm::accounts::{in_group, leg};
+use usm::{Claim, Leg, OptionType, Sheet, Side};
 
 /// `groups` spreads of `legs` legs each, every leg a line of its own; the holdings stand in
 /// another order than the placement.
-pub fn sheet(groups: u16, legs: usize) -> Tables {
+pub fn sheet(groups: u16, legs: usize) -> Sheet {
     let placement: Vec<Leg> = (1..=groups).flat_map(|group| spread(group, legs)).collect();
     let count = placement.len();
     // 101 has no common factor with any count used here, so each leg comes up once.
-    let holdings = (0..count).map(|index| Leg { group: 0, ..placement[index * 101 % count] }).collect();
+    let holdings = (0..count).map(|index| in_group(0, placement[index * 101 % count])).collect();
     let mut sheet = Sheet { holdings, placement, claims: Vec::new() };
     let margin = |group| sheet.margin(u64::from(group)).expect("a spread");
     sheet.claims = (1..=groups).map(|group| Claim { group, margin: margin(group) }).collect();
     sheet.check().expect("a sheet to be timed is accepted");
-    Tables {
-        holdings: leg_table(&sheet.holdings),
-        placement: leg_table(&sheet.placement),
-        claims: claim_table(&sheet.claims),
-    }
+    sheet
 }
 
 /// Verticals at ascending strikes, calls and puts in turn; a butterfly makes the number odd.
 fn spread(group: u16, count: usize) -> Vec<Leg> {
+    let lowest = Leg { group, underlying: u32::from(group), ..leg("L50c") };
     let mut legs = Vec::new();
     let mut add = |side, option_type, contracts| {
-        legs.push(Leg {
-            group,
-            side,
-            option_type,
-            style: Style::American,
-            market: Market::Listed,
-            unit_size: 100,
-            underlying: u32::from(group),
-            strike: 50_000 + 250 * legs.len() as u32,
-            expiry: 20110521,
-            contracts,
-        });
+        let strike = lowest.strike + 250 * legs.len() as u32;
+        legs.push(Leg { side, option_type, strike, contracts, ..lowest });
     };
     if count % 2 == 1 {
         add(Side::Long, OptionType::Call, 5);

@@ -16,7 +16,7 @@ const BATCH_TIME: Duration = Duration::from_millis(4);
 
 fn main() {
     if let Ok(emulator) = std::env::var("USM_RUNNER") {
-        println!("under the emulator {emulator}: the times say nothing, the ratio only roughly\n");
+        println!("under the emulator {emulator}: the times say nothing, and a ratio may be off by three\n");
     }
     println!("{:<46} {:>12} {:>12} {:>14}", "call", "model ns", "library ns", "library/model");
     let mut slower = Vec::new();

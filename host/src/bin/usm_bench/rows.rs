@@ -1,8 +1,10 @@
 //! What is timed: each row is one call with one input, by the model and by the library.
 
-use usm::{model, Accepted, RecordCounts, Refusal};
+use usm::block::{BLOCK_BYTES, LONGEST_FILE};
+use usm::both::{Calls, LIBRARY, MODEL};
+use usm::{leg_table, Accepted, Refusal, Sheet, Table, Tables, MOST_CLAIMS, MOST_LEGS};
 
-use crate::inputs::{sheet, Tables};
+use crate::inputs::sheet;
 
 pub struct Row {
     pub name: &'static str,
@@ -10,125 +12,112 @@ pub struct Row {
     pub library: Box<dyn FnMut() -> u64>,
 }
 
+/// A row whose two sides answer alike; that is seen to before anything is timed.
+fn row<Timed: FnMut() -> u64 + 'static>(name: &'static str, timed: impl Fn(Calls) -> Timed) -> Row {
+    let (mut model, mut library) = (timed(MODEL), timed(LIBRARY));
+    assert_eq!(model(), library(), "{name}: model and library differ");
+    Row { name, model: Box::new(model), library: Box::new(library) }
+}
+
 /// Folds an answer into a number, so that the two can be held against each other.
-fn folded<T: Copy>(answer: Result<T, Refusal>, of_success: impl Fn(T) -> u64) -> u64 {
+fn folded<T>(answer: Result<T, Refusal>, of_success: impl Fn(T) -> u64) -> u64 {
     match answer {
         Ok(success) => of_success(success),
         Err(refusal) => refusal.number << 56 | refusal.table << 48 | refusal.place,
     }
 }
 
-/// A row whose two sides answer alike; that is seen to before anything is timed.
-fn row(
-    name: &'static str,
-    mut model: impl FnMut() -> u64 + 'static,
-    mut library: impl FnMut() -> u64 + 'static,
-) -> Row {
-    assert_eq!(model(), library(), "{name}: model and library differ");
-    Row { name, model: Box::new(model), library: Box::new(library) }
-}
-
-type CheckSheet = fn(&[u8], &[u8], &[u8]) -> Result<Accepted, Refusal>;
-type CheckFile = fn(&[u8]) -> Result<Accepted, Refusal>;
-type Margins = fn(&[u8], u64, &mut [i64]) -> Result<usize, Refusal>;
-type Worksheet = fn(&[u8], u64, &mut [u32], &mut [i64]) -> Result<usize, Refusal>;
-type ReadFile = fn(&[u8], &mut [u8], &mut [u8], &mut [u8]) -> Result<RecordCounts, Refusal>;
-type WriteFile = fn(&[u8], &[u8], &[u8], &mut [u8]) -> Result<usize, Refusal>;
-
 fn total(accepted: Accepted) -> u64 {
     accepted.total as u64
 }
 
-fn check_sheet(name: &'static str, tables: Tables) -> Row {
-    let by = |call: CheckSheet, tables: Tables| {
-        move || folded(call(&tables.holdings, &tables.placement, &tables.claims), total)
-    };
-    row(name, by(model::check_sheet, tables.clone()), by(usm::check_sheet, tables))
+fn check_sheet(name: &'static str, tables: &Tables) -> Row {
+    row(name, |calls| {
+        let Tables { holdings, placement, claims } = tables.clone();
+        move || folded((calls.check_sheet)(&holdings, &placement, &claims), total)
+    })
 }
 
-fn check_file(name: &'static str, file: Vec<u8>) -> Row {
-    let by = |call: CheckFile, file: Vec<u8>| move || folded(call(&file), total);
-    row(name, by(model::check_file, file.clone()), by(usm::check_file, file))
+fn check_file(name: &'static str, file: &[u8]) -> Row {
+    row(name, |calls| {
+        let file = file.to_vec();
+        move || folded((calls.check_file)(&file), total)
+    })
 }
 
-fn margins(name: &'static str, placement: Vec<u8>, n: u64) -> Row {
-    let by = |call: Margins, placement: Vec<u8>| {
-        let mut out = [0; 32];
-        move || folded(call(&placement, n, &mut out), |groups| groups as u64)
-    };
-    row(name, by(model::margins, placement.clone()), by(usm::margins, placement))
+fn margins(name: &'static str, sheet: &Sheet) -> Row {
+    row(name, |calls| {
+        let (placement, n) = (leg_table(&sheet.placement), sheet.claims.len() as u64);
+        let mut out = [0; MOST_CLAIMS];
+        move || folded((calls.margins)(&placement, n, &mut out), |groups| groups as u64)
+    })
 }
 
-fn worksheet(name: &'static str, placement: Vec<u8>) -> Row {
-    let by = |call: Worksheet, placement: Vec<u8>| {
-        let (mut strikes, mut nets) = ([0; 256], [0; 256]);
-        move || folded(call(&placement, 1, &mut strikes, &mut nets), |rows| rows as u64)
-    };
-    row(name, by(model::worksheet, placement.clone()), by(usm::worksheet, placement))
+fn worksheet(name: &'static str, sheet: &Sheet) -> Row {
+    row(name, |calls| {
+        let placement = leg_table(&sheet.placement);
+        let (mut strikes, mut nets) = ([0; MOST_LEGS], [0; MOST_LEGS]);
+        move || folded((calls.worksheet)(&placement, 1, &mut strikes, &mut nets), |rows| rows as u64)
+    })
 }
 
-fn read_file(name: &'static str, file: Vec<u8>) -> Row {
-    let by = |call: ReadFile, file: Vec<u8>| {
-        let (mut holdings, mut placement, mut claims) = (vec![0; 8_192], vec![0; 8_192], vec![0; 1_024]);
+fn read_file(name: &'static str, file: &[u8]) -> Row {
+    row(name, |calls| {
+        let file = file.to_vec();
+        let [mut holdings, mut placement, mut claims] = Table::ALL.map(|table| vec![0; table.most_bytes()]);
         move || {
-            let counts = call(&file, &mut holdings, &mut placement, &mut claims);
+            let counts = (calls.read_file)(&file, &mut holdings, &mut placement, &mut claims);
             folded(counts, |counts| (counts.holdings + counts.placement + counts.claims) as u64)
         }
-    };
-    row(name, by(model::read_file, file.clone()), by(usm::read_file, file))
+    })
 }
 
-fn write_file(name: &'static str, tables: Tables) -> Row {
-    let by = |call: WriteFile, tables: Tables| {
-        let mut out = vec![0; usm::LONGEST_FILE];
+fn write_file(name: &'static str, sheet: &Sheet) -> Row {
+    row(name, |calls| {
+        let Tables { holdings, placement, claims } = sheet.tables();
+        let mut out = vec![0; LONGEST_FILE];
         move || {
-            folded(call(&tables.holdings, &tables.placement, &tables.claims, &mut out), |length| {
-                length as u64
-            })
+            let length = (calls.write_file)(&holdings, &placement, &claims, &mut out);
+            folded(length, |length| length as u64)
         }
-    };
-    row(name, by(model::write_file, tables.clone()), by(usm::write_file, tables))
+    })
 }
 
-fn file_of(tables: &Tables) -> Vec<u8> {
-    let mut file = vec![0; usm::LONGEST_FILE];
-    let written = usm::write_file(&tables.holdings, &tables.placement, &tables.claims, &mut file);
-    file.truncate(written.expect("a sheet to be timed can be written"));
+fn file_of(sheet: &Sheet) -> Vec<u8> {
+    sheet.to_file().expect("a sheet to be timed can be written")
+}
+
+/// The sheet's file with a byte of one block changed.
+fn damaged(sheet: &Sheet, block: usize) -> Vec<u8> {
+    let mut file = file_of(sheet);
+    file[block * BLOCK_BYTES + 100] ^= 1;
     file
 }
 
 pub fn rows() -> Vec<Row> {
     let (small, typical, full, wide) = (sheet(1, 4), sheet(12, 5), sheet(32, 8), sheet(1, 256));
-    let full_file = file_of(&full);
-
-    let mut bad_field = full.clone();
-    bad_field.holdings[2] = 9;
+    let mut bad_field = full.tables();
+    bad_field.holdings[2] = 9; // the side of record 0
     let mut wrong_claim = full.clone();
-    let last_margin = wrong_claim.claims.len() - 24;
-    wrong_claim.claims[last_margin] ^= 1;
-    let mut damaged_first = full_file.clone();
-    damaged_first[100] ^= 1;
-    let mut damaged_last = full_file.clone();
-    let in_last_block = damaged_last.len() - 100;
-    damaged_last[in_last_block] ^= 1;
+    wrong_claim.claims[31].margin ^= 1;
 
     vec![
-        check_sheet("check sheet, small (4 legs, 1 group)", small.clone()),
-        check_sheet("check sheet, typical (60 legs, 12 groups)", typical.clone()),
-        check_sheet("check sheet, full (256/256/32)", full.clone()),
-        check_sheet("check sheet, one group of 256 strikes", wide.clone()),
-        margins("margins of one group of 256 strikes", wide.placement.clone(), 1),
-        margins("margins of 32 groups of 8", full.placement.clone(), 32),
-        worksheet("worksheet of 256 strikes", wide.placement.clone()),
-        worksheet("worksheet of 4 strikes", small.placement.clone()),
-        check_file("check file, small (3 blocks)", file_of(&small)),
-        check_file("check file, typical (9 blocks)", file_of(&typical)),
-        check_file("check file, full (39 blocks)", full_file.clone()),
-        read_file("read file, 39 blocks", full_file),
-        write_file("write file, 39 blocks", full),
-        check_sheet("refused early: bad field in holding 0 (4)", bad_field),
-        check_sheet("refused late: claim 32 a mill off (16)", wrong_claim),
-        check_file("refused early: block 0 damaged (2)", damaged_first),
-        check_file("refused late: block 38 damaged (2)", damaged_last),
+        check_sheet("check sheet, small (4 legs, 1 group)", &small.tables()),
+        check_sheet("check sheet, typical (60 legs, 12 groups)", &typical.tables()),
+        check_sheet("check sheet, full (256/256/32)", &full.tables()),
+        check_sheet("check sheet, one group of 256 strikes", &wide.tables()),
+        margins("margins of one group of 256 strikes", &wide),
+        margins("margins of 32 groups of 8", &full),
+        worksheet("worksheet of 256 strikes", &wide),
+        worksheet("worksheet of 4 strikes", &small),
+        check_file("check file, small (3 blocks)", &file_of(&small)),
+        check_file("check file, typical (9 blocks)", &file_of(&typical)),
+        check_file("check file, full (39 blocks)", &file_of(&full)),
+        read_file("read file, 39 blocks", &file_of(&full)),
+        write_file("write file, 39 blocks", &full),
+        check_sheet("refused early: bad field in holding 0 (4)", &bad_field),
+        check_sheet("refused late: claim 32 a mill off (16)", &wrong_claim.tables()),
+        check_file("refused early: block 0 damaged (2)", &damaged(&full, 0)),
+        check_file("refused late: block 38 damaged (2)", &damaged(&full, 38)),
     ]
 }

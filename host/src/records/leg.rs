@@ -1,45 +1,8 @@
-//! The records of document 01, "Money, units, legs", as Rust values.
+//! Legs: the records of holdings and placement.
 
-/// Bytes of a leg record and of a claim record.
-pub const RECORD_BYTES: usize = 32;
-/// Holdings and placement have at most this many records each.
-pub const MOST_LEGS: usize = 256;
-/// Claims have at most this many records; groups are numbered 1 to this.
-pub const MOST_CLAIMS: usize = 32;
-/// No net, no margin and no accepted total passes this many mills.
-pub const GREATEST_AMOUNT: i64 = 2_560_000_000_000_000_000;
-/// Greatest unit size of a leg.
-pub const GREATEST_UNIT_SIZE: u16 = 1_000;
-/// Greatest strike, in mills for one unit of the underlying.
-pub const GREATEST_STRIKE: u32 = 99_999_999;
-/// Most contracts in one record.
-pub const MOST_CONTRACTS: u32 = 100_000;
-
-/// The three tables of a sheet, by document 01's numbers.
-#[derive(Clone, Copy, Debug, PartialEq, Eq, Hash)]
-pub enum Table {
-    Holdings = 1,
-    Placement = 2,
-    Claims = 3,
-}
-
-impl Table {
-    /// All three, in the order in which they stand in a file.
-    pub const ALL: [Table; 3] = [Table::Holdings, Table::Placement, Table::Claims];
-
-    /// The number document 01 gives this table.
-    pub fn number(self) -> u64 {
-        self as u64
-    }
-
-    /// How many records the table may have.
-    pub fn most_records(self) -> usize {
-        match self {
-            Table::Holdings | Table::Placement => MOST_LEGS,
-            Table::Claims => MOST_CLAIMS,
-        }
-    }
-}
+use super::{
+    is_expiry, u16_at, u32_at, GREATEST_STRIKE, GREATEST_UNIT_SIZE, MOST_CLAIMS, MOST_CONTRACTS, RECORD_BYTES,
+};
 
 #[derive(Clone, Copy, Debug, PartialEq, Eq, Hash)]
 pub enum Side {
@@ -165,59 +128,6 @@ impl Leg {
     }
 }
 
-/// One record of claims: a group and the margin the member claims for it.
-#[derive(Clone, Copy, Debug, PartialEq, Eq, Hash)]
-pub struct Claim {
-    /// 1 to 32.
-    pub group: u16,
-    /// In mills.
-    pub margin: i64,
-}
-
-impl Claim {
-    /// The 32 bytes of the record. A negative margin makes bytes that are refused (4).
-    pub fn to_bytes(&self) -> [u8; RECORD_BYTES] {
-        let mut record = [0; RECORD_BYTES];
-        record[0..2].copy_from_slice(&self.group.to_le_bytes());
-        record[8..16].copy_from_slice(&self.margin.to_le_bytes());
-        record
-    }
-
-    /// The claim in these 32 bytes, or none if a field is out of range.
-    pub fn from_bytes(record: &[u8; RECORD_BYTES]) -> Option<Claim> {
-        let margin: [u8; 8] = record[8..16].try_into().expect("eight bytes");
-        let claim = Claim {
-            group: u16_at(record, 0),
-            // Above the signed range the number reads as negative, and is out of range too.
-            margin: i64::from_le_bytes(margin),
-        };
-        let in_range = (1..=MOST_CLAIMS).contains(&usize::from(claim.group))
-            && (0..=GREATEST_AMOUNT).contains(&claim.margin)
-            && record[2..8].iter().chain(&record[16..]).all(|&byte| byte == 0);
-        in_range.then_some(claim)
-    }
-}
-
-/// Whether the number is a real date YYYYMMDD from 20000101 to 20991231.
-pub fn is_expiry(date: u32) -> bool {
-    const MONTH_LENGTHS: [u32; 12] = [31, 28, 31, 30, 31, 30, 31, 31, 30, 31, 30, 31];
-    let (year, month, day) = (date / 10_000, date / 100 % 100, date % 100);
-    if !(2000..=2099).contains(&year) || !(1..=12).contains(&month) {
-        return false;
-    }
-    // From 2000 to 2099 every fourth year is a leap year, 2000 among them.
-    let leap_day = u32::from(month == 2 && year % 4 == 0);
-    (1..=MONTH_LENGTHS[month as usize - 1] + leap_day).contains(&day)
-}
-
-fn u16_at(record: &[u8; RECORD_BYTES], at: usize) -> u16 {
-    u16::from_le_bytes([record[at], record[at + 1]])
-}
-
-fn u32_at(record: &[u8; RECORD_BYTES], at: usize) -> u32 {
-    u32::from_le_bytes([record[at], record[at + 1], record[at + 2], record[at + 3]])
-}
-
 /// A field with the two values 1 and 2.
 fn choice<T>(byte: u8, one: T, two: T) -> Option<T> {
     match byte {
@@ -230,18 +140,6 @@ fn choice<T>(byte: u8, one: T, two: T) -> Option<T> {
 #[cfg(test)]
 mod tests {
     use super::*;
-
-    #[test]
-    fn dates_are_real_ones_of_this_century() {
-        for good in [20000101, 20000229, 20120229, 20110531, 20110430, 20991231] {
-            assert!(is_expiry(good), "{good}");
-        }
-        for bad in
-            [0, 19991231, 20000100, 20110229, 20110431, 20111301, 20110001, 20110532, 21000101, u32::MAX]
-        {
-            assert!(!is_expiry(bad), "{bad}");
-        }
-    }
 
     #[test]
     fn a_leg_survives_its_bytes() {
@@ -262,13 +160,5 @@ mod tests {
         {
             assert_eq!(Leg::from_bytes(&too_much.to_bytes()), None);
         }
-    }
-
-    #[test]
-    fn a_claim_survives_its_bytes() {
-        let claim = Claim { group: 1, margin: GREATEST_AMOUNT };
-        assert_eq!(Claim::from_bytes(&claim.to_bytes()), Some(claim));
-        assert_eq!(Claim::from_bytes(&Claim { margin: -1, ..claim }.to_bytes()), None);
-        assert_eq!(Claim::from_bytes(&Claim { margin: GREATEST_AMOUNT + 1, ..claim }.to_bytes()), None);
     }
 }

@@ -1,0 +1,55 @@
+//! Legs and sheets in the notation of document 01's "Accounts on the bench": for the samples,
+//! the benchmark and the tests.
+
+use crate::records::{Claim, Leg, Market, OptionType, Side, Style};
+use crate::sheet::Sheet;
+
+/// One leg, as `L60c` for long a call at 60 dollars: listed, American, unit 100, one
+/// underlying, one contract, expiry 20110521, in group 1.
+///
+/// # Panics
+///
+/// If the leg is written in another way.
+pub fn leg(notation: &str) -> Leg {
+    let (side, rest) = notation.split_at(1);
+    let (dollars, option_type) = rest.split_at(rest.len() - 1);
+    Leg {
+        group: 1,
+        side: match side {
+            "L" => Side::Long,
+            "S" => Side::Short,
+            _ => panic!("{notation}: a leg starts with L or S"),
+        },
+        option_type: match option_type {
+            "c" => OptionType::Call,
+            "p" => OptionType::Put,
+            _ => panic!("{notation}: a leg ends with c or p"),
+        },
+        style: Style::American,
+        market: Market::Listed,
+        unit_size: 100,
+        underlying: 7,
+        strike: dollars.parse::<u32>().expect("a strike in whole dollars") * 1_000,
+        expiry: 20110521,
+        contracts: 1,
+    }
+}
+
+/// Several contracts of a leg.
+pub fn times(contracts: u32, notation: &str) -> Leg {
+    Leg { contracts, ..leg(notation) }
+}
+
+/// A leg in another group, or in 0 for one that is held or not placed.
+pub fn in_group(group: u16, leg: Leg) -> Leg {
+    Leg { group, ..leg }
+}
+
+/// The sheet that holds just what it places, and claims these margins for groups 1, 2, ...
+pub fn placed(placement: &[Leg], margins: &[i64]) -> Sheet {
+    Sheet {
+        holdings: placement.iter().map(|leg| in_group(0, *leg)).collect(),
+        placement: placement.to_vec(),
+        claims: (1..).zip(margins).map(|(group, &margin)| Claim { group, margin }).collect(),
+    }
+}

@@ -1,0 +1,50 @@
+//! The library and the model as two values of one type, to hold them against each other.
+
+use crate::records::Table;
+use crate::refusal::{Accepted, RecordCounts, Refusal};
+use crate::{calls, model};
+
+/// The calls of one implementation.
+#[allow(clippy::type_complexity)] // a list of signatures is what this is
+pub struct Calls {
+    pub name: &'static str,
+    pub check_table: fn(Table, &[u8]) -> Result<usize, Refusal>,
+    pub margin: fn(&[u8], u64) -> Result<i64, Refusal>,
+    pub margins: fn(&[u8], u64, &mut [i64]) -> Result<usize, Refusal>,
+    pub worksheet: fn(&[u8], u64, &mut [u32], &mut [i64]) -> Result<usize, Refusal>,
+    pub check_sheet: fn(&[u8], &[u8], &[u8]) -> Result<Accepted, Refusal>,
+    pub check_file: fn(&[u8]) -> Result<Accepted, Refusal>,
+    pub read_file: fn(&[u8], &mut [u8], &mut [u8], &mut [u8]) -> Result<RecordCounts, Refusal>,
+    pub write_file: fn(&[u8], &[u8], &[u8], &mut [u8]) -> Result<usize, Refusal>,
+    pub file_line: fn(&[u8]) -> String,
+}
+
+/// The proved library, through the safe wrapper.
+pub const LIBRARY: Calls = Calls {
+    name: "library",
+    check_table: calls::check_table,
+    margin: calls::margin,
+    margins: calls::margins,
+    worksheet: calls::worksheet,
+    check_sheet: calls::check_sheet,
+    check_file: calls::check_file,
+    read_file: calls::read_file,
+    write_file: calls::write_file,
+    file_line: calls::file_line,
+};
+
+/// The independent model.
+pub const MODEL: Calls = Calls {
+    name: "model",
+    check_table: model::check_table,
+    margin: model::margin,
+    margins: model::margins,
+    worksheet: model::worksheet,
+    check_sheet: model::check_sheet,
+    check_file: model::check_file,
+    read_file: model::read_file,
+    write_file: model::write_file,
+    file_line: model::file_line,
+};
+
+pub const BOTH: [Calls; 2] = [LIBRARY, MODEL];

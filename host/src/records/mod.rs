@@ -1,0 +1,63 @@
+//! The records of document 01, "Money, units, legs", as Rust values.
+
+mod claim;
+mod date;
+mod leg;
+
+pub use claim::Claim;
+pub use date::is_expiry;
+pub use leg::{Leg, Line, Market, OptionType, Series, Side, Style};
+
+/// Bytes of a leg record and of a claim record.
+pub const RECORD_BYTES: usize = 32;
+/// Holdings and placement have at most this many records each.
+pub const MOST_LEGS: usize = 256;
+/// Claims have at most this many records; groups are numbered 1 to this.
+pub const MOST_CLAIMS: usize = 32;
+/// No net, no margin and no accepted total passes this many mills.
+pub const GREATEST_AMOUNT: i64 = 2_560_000_000_000_000_000;
+/// Greatest unit size of a leg.
+pub const GREATEST_UNIT_SIZE: u16 = 1_000;
+/// Greatest strike, in mills for one unit of the underlying.
+pub const GREATEST_STRIKE: u32 = 99_999_999;
+/// Most contracts in one record.
+pub const MOST_CONTRACTS: u32 = 100_000;
+
+/// The three tables of a sheet, by document 01's numbers.
+#[derive(Clone, Copy, Debug, PartialEq, Eq, Hash)]
+pub enum Table {
+    Holdings = 1,
+    Placement = 2,
+    Claims = 3,
+}
+
+impl Table {
+    /// All three, in the order in which they stand in a file.
+    pub const ALL: [Table; 3] = [Table::Holdings, Table::Placement, Table::Claims];
+
+    /// The number document 01 gives this table.
+    pub fn number(self) -> u64 {
+        self as u64
+    }
+
+    /// How many records the table may have.
+    pub fn most_records(self) -> usize {
+        match self {
+            Table::Holdings | Table::Placement => MOST_LEGS,
+            Table::Claims => MOST_CLAIMS,
+        }
+    }
+
+    /// The bytes of the longest such table.
+    pub fn most_bytes(self) -> usize {
+        self.most_records() * RECORD_BYTES
+    }
+}
+
+fn u16_at(record: &[u8; RECORD_BYTES], at: usize) -> u16 {
+    u16::from_le_bytes([record[at], record[at + 1]])
+}
+
+fn u32_at(record: &[u8; RECORD_BYTES], at: usize) -> u32 {
+    u32::from_le_bytes([record[at], record[at + 1], record[at + 2], record[at + 3]])
+}

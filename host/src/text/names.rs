@@ -1,0 +1,21 @@
+//! The words for the terms of a leg, for both ways.
+
+use crate::records::{Market, OptionType, Side, Style};
+
+/// The words for a term with two values.
+pub type Names<T> = [(&'static str, T); 2];
+
+pub const SIDES: Names<Side> = [("long", Side::Long), ("short", Side::Short)];
+pub const TYPES: Names<OptionType> = [("call", OptionType::Call), ("put", OptionType::Put)];
+pub const STYLES: Names<Style> = [("american", Style::American), ("european", Style::European)];
+pub const MARKETS: Names<Market> = [("listed", Market::Listed), ("otc", Market::Otc)];
+
+/// The word for one of the two values.
+pub fn name_of<T: PartialEq>(value: T, names: Names<T>) -> &'static str {
+    let [(first, its_value), (second, _)] = names;
+    if value == its_value {
+        first
+    } else {
+        second
+    }
+}

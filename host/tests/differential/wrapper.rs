@@ -1,0 +1,45 @@
+//! The safe wrapper against the model: what it answers, and what it leaves in what it is lent.
+
+use std::fmt::Display;
+
+use usm::block::LONGEST_FILE;
+use usm::both::{Calls, LIBRARY, MODEL};
+use usm::{Accepted, RecordCounts, Refusal, Table, Tables, MOST_CLAIMS};
+
+/// The answers of every call, each with its lent buffers.
+#[derive(Debug, PartialEq)]
+struct Answers {
+    check_table: Result<usize, Refusal>,
+    margin: Result<i64, Refusal>,
+    margins: (Result<usize, Refusal>, [i64; MOST_CLAIMS]),
+    worksheet: (Result<usize, Refusal>, [u32; 8], [i64; 8]),
+    check_sheet: Result<Accepted, Refusal>,
+    check_file: Result<Accepted, Refusal>,
+    read_file: (Result<RecordCounts, Refusal>, [[u8; 200]; 3]),
+    write_file: (Result<usize, Refusal>, Vec<u8>),
+    file_line: String,
+}
+
+fn answers(calls: Calls, tables: &Tables, file: &[u8], g: u64) -> Answers {
+    let Tables { holdings, placement, claims } = tables;
+    let mut margins = [-1; MOST_CLAIMS];
+    let (mut strikes, mut nets) = ([1; 8], [-1; 8]);
+    let [mut held, mut placed, mut claimed] = [[1; 200]; 3];
+    let mut out = vec![1; LONGEST_FILE];
+    Answers {
+        check_table: (calls.check_table)(Table::Placement, placement),
+        margin: (calls.margin)(placement, g),
+        margins: ((calls.margins)(placement, g, &mut margins), margins),
+        worksheet: ((calls.worksheet)(placement, g, &mut strikes, &mut nets), strikes, nets),
+        check_sheet: (calls.check_sheet)(holdings, placement, claims),
+        check_file: (calls.check_file)(file),
+        read_file: ((calls.read_file)(file, &mut held, &mut placed, &mut claimed), [held, placed, claimed]),
+        write_file: ((calls.write_file)(holdings, placement, claims, &mut out), out),
+        file_line: (calls.file_line)(file),
+    }
+}
+
+pub fn answers_alike(case: &dyn Display, tables: &Tables, file: &[u8], g: u64) {
+    let [library, model] = [LIBRARY, MODEL].map(|calls| answers(calls, tables, file, g));
+    assert!(library == model, "{case}: group {g}: wrapper and model differ\n{library:?}\n{model:?}");
+}
