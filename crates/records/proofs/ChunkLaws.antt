@@ -52,6 +52,10 @@ module _ (xs : List ℕ) where
   unfolding legsOf legsFrom
   legs-all = rw (chunks-all 32 (length xs / 32) xs)
 
+  pub legs-step : (i : ℕ) → i < length xs / 32 → legsFrom xs i ≡ legOf (chunkAt 32 xs i) ∷ legsFrom xs (i + 1)
+  unfolding legsFrom
+  legs-step i h = rw (chunks-step 32 (length xs / 32) i xs h)
+
   pub legs-none : (i : ℕ) → length xs / 32 ≤ i → legsFrom xs i ≡ []
   unfolding legsFrom
   legs-none i h = rw (chunks-none 32 (length xs / 32) i xs h)
@@ -59,6 +63,10 @@ module _ (xs : List ℕ) where
   pub claims-all : claimsFrom xs 0 ≡ claimsOf xs
   unfolding claimsOf claimsFrom
   claims-all = rw (chunks-all 32 (length xs / 32) xs)
+
+  pub claims-step : (i : ℕ) → i < length xs / 32 → claimsFrom xs i ≡ claimOf (chunkAt 32 xs i) ∷ claimsFrom xs (i + 1)
+  unfolding claimsFrom
+  claims-step i h = rw (chunks-step 32 (length xs / 32) i xs h)
 
   pub claims-none : (i : ℕ) → length xs / 32 ≤ i → claimsFrom xs i ≡ []
   unfolding claimsFrom
@@ -69,9 +77,7 @@ module _ (xs : List ℕ) where
   partAt i = take (32 * i + 32 - 32 * i) (drop (32 * i) xs)
 
   pub leg-next : (i : ℕ) (l : Leg) → i < length xs / 32 → l ≡ legOf (partAt i) → legsFrom xs i ≡ l ∷ legsFrom xs (i + 1)
-  unfolding legsFrom
-  leg-next i l h e = rw (e, part-is 32 i xs, chunks-step 32 (length xs / 32) i xs h)
+  leg-next i l h e = rw (e, part-is 32 i xs) (legs-step i h)
 
   pub claim-next : (i : ℕ) (k : Claim) → i < length xs / 32 → k ≡ claimOf (partAt i) → claimsFrom xs i ≡ k ∷ claimsFrom xs (i + 1)
-  unfolding claimsFrom
-  claim-next i k h e = rw (e, part-is 32 i xs, chunks-step 32 (length xs / 32) i xs h)
+  claim-next i k h e = rw (e, part-is 32 i xs) (claims-step i h)
