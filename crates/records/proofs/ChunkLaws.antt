@@ -64,6 +64,10 @@ module _ (xs : List ℕ) where
   unfolding claimsOf claimsFrom
   claims-all = rw (chunks-all 32 (length xs / 32) xs)
 
+  pub claims-step : (i : ℕ) → i < length xs / 32 → claimsFrom xs i ≡ claimOf (chunkAt 32 xs i) ∷ claimsFrom xs (i + 1)
+  unfolding claimsFrom
+  claims-step i h = rw (chunks-step 32 (length xs / 32) i xs h)
+
   pub claims-none : (i : ℕ) → length xs / 32 ≤ i → claimsFrom xs i ≡ []
   unfolding claimsFrom
   claims-none i h = rw (chunks-none 32 (length xs / 32) i xs h)
@@ -76,5 +80,4 @@ module _ (xs : List ℕ) where
   leg-next i l h e = rw (e, part-is 32 i xs) (legs-step i h)
 
   pub claim-next : (i : ℕ) (k : Claim) → i < length xs / 32 → k ≡ claimOf (partAt i) → claimsFrom xs i ≡ k ∷ claimsFrom xs (i + 1)
-  unfolding claimsFrom
-  claim-next i k h e = rw (e, part-is 32 i xs, chunks-step 32 (length xs / 32) i xs h)
+  claim-next i k h e = rw (e, part-is 32 i xs) (claims-step i h)
