@@ -1,12 +1,14 @@
 -- The answers of the calls: what is checked first, what is left to check, and the margins as a list.
-use Prim.Native.Nat.{ℕ, zero, suc, _+_, _<_}
+use Prim.Native.Nat.{ℕ, zero, suc, _+_, _≤_, _<_}
 use mathlib.Core.Path.{_≡_, refl, ap}
-use mathlib.Core.Bool.{Bool, true, false}
+use mathlib.Core.Bool.{Bool, true, false, _&&_, and-eq-true-iff}
 use mathlib.Core.List.{List, [], _∷_, _++_}
 use native.Mathlib.Nat.{add-zero}
 use native.Mathlib.Omega.{arith}
+use lib.Dec.{leb}
 use lib.IntN.{ℤ, pos}
 use lib.ListN.{length, getD}
+use borrow.Author.Tests.{leb-true}
 use Rattle.records.specs.Order.{Check, ask, refuse, firstOf}
 use Rattle.records.specs.Tables.{tableChecks, counted, countedOf}
 use Rattle.records.specs.declared.legs.Leg.{Leg}
@@ -17,9 +19,9 @@ use Rattle.records.specs.declared.tables.Counted.the-variants.{Records, Refused
 use Rattle.records.specs.declared.tables.Kind.the-variants.{Placement}
 use Rattle.records.proofs.OrderLaws.{first-then, first-stop, clear, unclear, pass-left}
 use Rattle.spreads.specs.Spreads.{groupOf}
-use Rattle.spreads.specs.Strikes.{marginOf}
-use Rattle.spreads.specs.Calls.{listedAnswer, marginsFrom}
-use Rattle.spreads.specs.Steps.{Placed}
+use Rattle.spreads.specs.Strikes.{strikesOf, marginOf}
+use Rattle.spreads.specs.Calls.{listChecks, listedAnswer, marginsFrom}
+use Rattle.spreads.specs.Steps.{Placed, listedIn}
 use Rattle.spreads.specs.declared.calls.Listed.{Listed}
 use Rattle.spreads.specs.declared.calls.Listed.the-variants.{Entries, Refused as Refused-listed}
 
@@ -66,6 +68,22 @@ module _ (cs : List Check) (room : Bool) (n : ℕ) where
   pub list-out : firstOf cs ≡ Nothing → room ≡ false → Refused-listed (refuse 17 0 n) ≡ listedAfter
   unfolding firstOf
   list-out e h = rw (first-then cs (ask room 17 0 n ∷ []) e, h)
+
+-- ---- the worksheet of n strikes
+
+module _ (legs : List Leg) (a b n : ℕ) (e : n ≡ length (strikesOf legs)) where
+  pub strikes-room : leb n a && leb n b ≡ true → (length (strikesOf legs) ≤ a) × (length (strikesOf legs) ≤ b)
+  strikes-room h =
+      let p = and-eq-true-iff (leb n a) (leb n b) .0 h in
+      rw (← e) (leb-true n a (p .0), leb-true n b (p .1))
+
+  pub strikes-in : leb n a && leb n b ≡ true → Entries n ≡ listedIn legs a b
+  unfolding listedIn listChecks firstOf
+  strikes-in h = rw (← e) (list-in [] (leb n a && leb n b) n refl h)
+
+  pub strikes-out : leb n a && leb n b ≡ false → Refused-listed (refuse 17 0 n) ≡ listedIn legs a b
+  unfolding listedIn listChecks firstOf
+  strikes-out h = rw (← e) (list-out [] (leb n a && leb n b) n refl h)
 
 -- ---- the margins as a list
 

@@ -37,7 +37,7 @@ withFirsts f l =
       markets = f .markets;
     })
 
--- where the leg is of this right
+-- with a leg's units, where it is of this right
 unfoldable pub withUnits : Sides → Bool → ℕ → Units → Sides
 withUnits s ofThis side u =
     record {

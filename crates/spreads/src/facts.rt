@@ -8,6 +8,9 @@ use records::Leg;
 use records::RECORD_BYTES;
 use records::Units;
 
+// More than any date.
+const NEVER: u32 = 99999999;
+
 // Whether there is a leg; what the first one says that all others must share; whether one differs.
 pub struct Firsts {
     pub some: bool,
@@ -125,7 +128,7 @@ impl Facts {
             puts: none,
             lives: Lives {
                 latest: 0,
-                earliest: 99999999,
+                earliest: NEVER,
             },
         }
     }
