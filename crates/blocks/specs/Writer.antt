@@ -5,22 +5,17 @@ use mathlib.Core.List.{List, [], _∷_, _++_}
 use lib.Dec.{eqb, leb}
 use lib.ListN.{length}
 use Rattle.records.specs.Order.{Check, ask, firstOf}
-use Rattle.records.specs.Tables.{wholeTable}
+use Rattle.records.specs.Tables.{wholeTables}
 use Rattle.records.specs.Written.{putAt}
 use Rattle.records.specs.declared.refusals.Fault.{Fault}
 use Rattle.records.specs.declared.refusals.Fault.the-variants.{Nothing, Is}
-use Rattle.records.specs.declared.tables.Kind.the-variants.{Holdings, Placement, Claims}
 use Rattle.blocks.specs.File.{Tables, recordChecks, fileOf}
 use Rattle.blocks.specs.declared.writer.Writing.{Writing}
 use Rattle.blocks.specs.declared.writer.Writing.the-variants.{Wrote, Refused}
 
 -- refusal 1: 'table not whole records or over its limit; writer given three empty tables'
 unfoldable pub takenTables : ℕ → ℕ → ℕ → Bool
-takenTables h p c =
-    wholeTable Holdings h
-    && wholeTable Placement p
-    && wholeTable Claims c
-    && not (eqb h 0 && eqb p 0 && eqb c 0)
+takenTables h p c = wholeTables h p c && not (eqb h 0 && eqb p 0 && eqb c 0)
 
 -- 'The writer gives 1, 4, 17.'
 unfoldable pub writeChecks : Tables → List Check

@@ -39,6 +39,10 @@ goodRecord Claims xs = goodClaim xs
 abbrev pub wholeTable : Kind → ℕ → Bool
 wholeTable kind bytes = eqb (bytes % 32) 0 && leb (bytes / 32) (limitOf kind)
 
+-- three tables of so many bytes, each of them so
+abbrev pub wholeTables : ℕ → ℕ → ℕ → Bool
+wholeTables h p c = wholeTable Holdings h && wholeTable Placement p && wholeTable Claims c
+
 -- refusal 4, 'a field out of range': table, record
 unfoldable pub fieldChecks : Kind → List ℕ → List Check
 fieldChecks kind xs = askEach (goodRecord kind) 4 (tableNumber kind) 0 (recordsOf xs)

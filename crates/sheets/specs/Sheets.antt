@@ -1,6 +1,6 @@
 -- 'The rule of a sheet', as facts and as refusals in their order.
 use mathlib.Core.Path.{_≡_}
-use mathlib.Core.Bool.{Bool, true, not, _&&_}
+use mathlib.Core.Bool.{true, not, _&&_}
 use mathlib.Core.Logic.{_≢_}
 use mathlib.Core.List.{List, [], _∷_, _++_, map}
 use Prim.Native.Nat.{ℕ, _+_, _-_, _≤_}
@@ -9,10 +9,9 @@ use lib.ListN.{length, getD}
 use Rattle.records.specs.Lists.{All, sum}
 use Rattle.records.specs.Legs.{isShort}
 use Rattle.records.specs.Order.{Check, ask, askEach, groups, inOrder}
-use Rattle.records.specs.Tables.{wholeTable, fieldsChecks, legsOf, claimsOf}
+use Rattle.records.specs.Tables.{wholeTables, fieldsChecks, legsOf, claimsOf}
 use Rattle.records.specs.declared.legs.Leg.{Leg}
 use Rattle.records.specs.declared.claims.Claim.{Claim}
-use Rattle.records.specs.declared.tables.Kind.the-variants.{Holdings, Placement, Claims}
 use Rattle.spreads.specs.Strikes.{marginOf}
 use Rattle.spreads.specs.Spreads.{groupOf, Spread, spreadChecks}
 use Rattle.sheets.specs.Lines.{contractsOf, evenAt}
@@ -69,13 +68,9 @@ ruleChecks h p c =
     ∷ groups (length c) (askClaim p c)
     ∷ [])
 
--- not 'table not whole records or over its limit', of any of the three
-abbrev pub wholeTables : List ℕ → List ℕ → List ℕ → Bool
-wholeTables h p c = wholeTable Holdings (length h) && wholeTable Placement (length p) && wholeTable Claims (length c)
-
--- 1, then 4
+-- 1, 'table not whole records or over its limit', then 4
 unfoldable pub tablesChecks : List ℕ → List ℕ → List ℕ → List Check
-tablesChecks h p c = ask (wholeTables h p c) 1 0 0 ∷ fieldsChecks h p c
+tablesChecks h p c = ask (wholeTables (length h) (length p) (length c)) 1 0 0 ∷ fieldsChecks h p c
 
 unfoldable pub sheetChecks : List ℕ → List ℕ → List ℕ → List Check
 sheetChecks h p c = tablesChecks h p c ++ ruleChecks (legsOf h) (legsOf p) (claimsOf c)

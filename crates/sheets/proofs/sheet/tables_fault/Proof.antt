@@ -1,4 +1,6 @@
-use Rattle.sheets.specs.Sheets.{wholeTables, tablesChecks}
+use Rattle.sheets.specs.Sheets.{tablesChecks}
+use Rattle.records.specs.Tables.{wholeTables}
+use lib.ListN.{length}
 use Rattle.records.specs.Order.{firstOf}
 use denote.Ref.{now}
 use mathlib.Core.Bool.{true, false}
@@ -12,7 +14,7 @@ unfolding tablesChecks firstOf
 returns c =
     let w = c .before .before in
     let a = w .before .before .before .before .before .before .args in
-    let whole : wholeTables (now (a .holdings)) (now (a .placement)) (now (a .claims)) ≡ true =
+    let whole : wholeTables (length (now (a .holdings))) (length (now (a .placement))) (length (now (a .claims))) ≡ true =
     rw (w .before .before .whole-table .ensures, w .before .whole-table2 .ensures, w .whole-table3 .ensures) at (c .before .if1 .taken) in
     rw whole (c .fields-fault .ensures)
 
@@ -21,7 +23,7 @@ unfolding tablesChecks firstOf
 returns-2 c =
     let w = c .before in
     let a = w .before .before .before .before .before .before .args in
-    let torn : wholeTables (now (a .holdings)) (now (a .placement)) (now (a .claims)) ≡ false =
+    let torn : wholeTables (length (now (a .holdings))) (length (now (a .placement))) (length (now (a .claims))) ≡ false =
     rw (w .before .before .whole-table .ensures, w .before .whole-table2 .ensures, w .whole-table3 .ensures) at (c .if1 .left) in
     rw torn
 
