@@ -1,12 +1,9 @@
--- What the layer above may rely on: the reader with room for every table, and what a lent table then holds.
+-- What the layer above may rely on: the reader with room for every table.
 use mathlib.Core.Path.{_≡_, refl}
 use mathlib.Core.List.{List}
-use Prim.Native.Nat.{ℕ, _+_, _≤_}
+use Prim.Native.Nat.{ℕ, _≤_}
 use native.Mathlib.Omega.{arith}
-use lib.ListN.{length, take, drop}
-use lib.Seq.{take-at}
 use Rattle.records.specs.Order.{firstOf}
-use Rattle.records.specs.Written.{putAt}
 use Rattle.records.specs.declared.refusals.Refusal.{Refusal}
 use Rattle.records.specs.declared.refusals.Fault.{Fault}
 use Rattle.records.specs.declared.refusals.Fault.the-variants.{Nothing, Is}
@@ -29,8 +26,3 @@ read-roomy f h p c rh rp rc = go (firstOf (readChecks f)) refl
         let b = read-bytes f (countsOf (tablesIn f)) e refl in
         rw e (read-done f h p c e (omega (arith, b .holdings)) (omega (arith, b .placement)) (omega (arith, b .claims)))
     go (Is r) e = refused f h p c r e
-
--- what a lent slice holds from index 0 on is what was put there
-pub put-front : {A : Type 0} (d s : List A) → take (length s) (putAt d 0 s) ≡ s
-unfolding putAt
-put-front d s = take-at s (drop (0 + length s) d) (length s) refl

@@ -1,10 +1,10 @@
 -- A list in parts: the laws of a loop that begins with all of them, takes part i off at each turn, and ends with none.
 use Prim.Native.Nat.{ℕ, zero, suc, _+_, _-_, _*_, _/_, _≤_, _<_}
 use mathlib.Core.Path.{_≡_, refl, ap}
-use mathlib.Core.List.{List, [], _∷_}
+use mathlib.Core.List.{List, [], _∷_, _++_}
 use lib.ListN.{length, getD, take, drop}
 use lib.Seq.{drop-drop}
-use native.Mathlib.Nat.{mul-add, mul-one, mul-zero, sub-zero, add-sub-cancel-left, not-suc-le-zero, le-of-suc-le-suc, mul-suc, add-comm}
+use native.Mathlib.Nat.{mul-add, mul-one, mul-zero, sub-zero, add-sub-cancel-left, not-suc-le-zero, le-of-suc-le-suc, mul-suc, add-comm, suc-add}
 use native.Mathlib.Omega.{arith}
 use Rattle.records.specs.Chunks.{chunks, chunkAt, chunksFrom}
 use Rattle.records.specs.Legs.{legOf}
@@ -28,6 +28,12 @@ unfolding chunks chunksFrom
 chunks-none size n i xs h =
     let e : n - i ≡ 0 = omega arith in
     simp e
+
+-- one part more behind the others
+pub chunks-more : (size n : ℕ) (xs : List ℕ) → chunks size (n + 1) xs ≡ chunks size n xs ++ chunkAt size xs n ∷ []
+unfolding chunks
+chunks-more size zero xs = simp mul-zero
+chunks-more size (suc n) xs = rw (suc-add n 1, chunks-more size n (drop size xs)) (simp (drop-drop, mul-suc, add-comm))
 
 -- the part as code takes it, from size * i to size * i + size
 pub part-is : (size i : ℕ) (xs : List ℕ) → take (size * i + size - size * i) (drop (size * i) xs) ≡ chunkAt size xs i

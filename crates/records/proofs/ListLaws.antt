@@ -2,11 +2,11 @@
 use mathlib.Core.Path.{_≡_, refl}
 use mathlib.Core.Bool.{Bool, true, false, cond, not, and-eq-true-iff}
 use mathlib.Core.List.{List, [], _∷_, _++_, map, List·Memᴰ, List·Memᴰ·head, List·Memᴰ·tail}
-use Prim.Native.Nat.{ℕ, suc, _+_, _*_, _≤_, _<_}
-use native.Mathlib.Nat.{le-trans, le-max-left, le-max-right}
+use Prim.Native.Nat.{ℕ, zero, suc, _+_, _*_, _≤_, _<_}
+use native.Mathlib.Nat.{le-trans, le-max-left, le-max-right, not-suc-le-zero, le-of-suc-le-suc}
 use native.Mathlib.Decide.{decLe}
 use native.Mathlib.Omega.{arith}
-use lib.ListN.{length}
+use lib.ListN.{length, getD}
 use Rattle.records.specs.Lists.{only, sum, most, keep, allb, All}
 
 pub only-split : (b : Bool) (n : ℕ) → n ≡ only b n + only (not b) n
@@ -33,6 +33,11 @@ module _ {A : Type 0} where
   pub all-append : (P : A → Type 0) (a b : List A) → All P a → All P b → All P (a ++ b)
   all-append P [] b p q = q
   all-append P (x ∷ a) b p q = (p .0, all-append P a b (p .1) q)
+
+  pub all-at : (P : A → Type 0) (l : List A) (i : ℕ) (z : A) → All P l → i < length l → P (getD l i z)
+  all-at P [] i z a h = absurd (not-suc-le-zero h)
+  all-at P (x ∷ l) zero z a h = a .0
+  all-at P (x ∷ l) (suc i) z a h = all-at P l i z (a .1) (le-of-suc-le-suc h)
 
   pub every : {P : A → Type 0} (l : List A) → ((x : A) → P x) → All P l
   every [] f = tt
@@ -103,10 +108,6 @@ module _ {A : Type 0} where
       go : (b : Bool) → length (keep t xs) ≤ length xs → length (cond b (x ∷ keep t xs) (keep t xs)) ≤ suc (length xs)
       go true e = omega arith
       go false e = omega arith
-
-  pub keep-first : (t : A → Bool) (x : A) (l : List A) → t x ≡ false → keep t (x ∷ l) ≡ keep t l
-  unfolding keep
-  keep-first t x l e = rw e
 
   -- ---- one element more
 

@@ -58,3 +58,8 @@ module _ {A : Type 0} where
   pub put-holds : (d s : List A) → length s ≤ length (putAt d 0 s)
   unfolding putAt
   put-holds d s = omega (arith, length-append s (drop (0 + length s) d))
+
+  -- and is there what was written
+  pub put-front : (d s : List A) → take (length s) (putAt d 0 s) ≡ s
+  unfolding putAt
+  put-front d s = take-at s (drop (0 + length s) d) (length s) refl

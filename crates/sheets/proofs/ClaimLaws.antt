@@ -1,12 +1,10 @@
 -- Claims as a loop over 32-byte parts sees them: numbered in order, each by its group, and added up.
-use Prim.Native.Nat.{ℕ, zero, suc, _+_, _-_, _*_, _/_, _≤_, _<_}
-use mathlib.Core.Path.{_≡_, refl, _∙_, ap}
+use Prim.Native.Nat.{ℕ, _+_, _-_, _*_, _/_, _≤_, _<_}
+use mathlib.Core.Path.{_≡_, _∙_, ap}
 use mathlib.Core.Bool.{true}
 use mathlib.Core.List.{List, [], _∷_, map}
-use native.Mathlib.Nat.{le-of-suc-le-suc, not-suc-le-zero}
 use native.Mathlib.Omega.{arith}
-use lib.ListN.{length, getD, take, drop, length-map}
-use Rattle.records.specs.Lists.{All}
+use lib.ListN.{length, getD, take, drop, List·getD-map}
 use Rattle.records.specs.Chunks.{chunkAt, recordsOf}
 use Rattle.records.specs.Claims.{claimOf, goodClaim}
 use Rattle.records.specs.Order.{firstOf, refuse}
@@ -15,7 +13,7 @@ use Rattle.records.specs.declared.claims.Claim.{Claim}
 use Rattle.records.specs.declared.refusals.Fault.the-variants.{Nothing, Is}
 use Rattle.records.specs.declared.tables.Kind.the-variants.{Claims}
 use Rattle.records.proofs.ChunkLaws.{getD-chunks, length-chunks, part-is, claims-none, claim-next}
-use Rattle.records.proofs.ListLaws.{sum-step, sum-over}
+use Rattle.records.proofs.ListLaws.{all-at, sum-step, sum-over}
 use Rattle.records.proofs.TableLaws.{fields-good, claim-ranges}
 use Rattle.sheets.specs.Sheets.{claimFor, askNumbered, totalOf}
 use Rattle.sheets.specs.Steps.{bits, askListed}
@@ -37,26 +35,14 @@ numbered-none i l e = rw e
 
 -- ---- the claim of a group
 
-getD-map : {A B : Type 0} (f : A → B) (l : List A) (i : ℕ) (d : A) (e : B) → i < length l → getD (map f l) i e ≡ f (getD l i d)
-getD-map f [] i d e h = absurd (not-suc-le-zero h)
-getD-map f (x ∷ l) zero d e h = refl
-getD-map f (x ∷ l) (suc i) d e h = getD-map f l i d e (le-of-suc-le-suc h)
-
-all-at : {A : Type 0} (P : A → Type 0) (l : List A) (i : ℕ) (d : A) → All P l → i < length l → P (getD l i d)
-all-at P [] i d a h = absurd (not-suc-le-zero h)
-all-at P (x ∷ l) zero d a h = a .0
-all-at P (x ∷ l) (suc i) d a h = all-at P l i d (a .1) (le-of-suc-le-suc h)
-
 module _ (xs : List ℕ) (k : ℕ) (h : k < length xs / 32) (c : Claim) (e : c ≡ claimOf (take (32 * k + 32 - 32 * k) (drop (32 * k) xs))) where
   pub claim-at : claimFor (claimsOf xs) (k + 1) ≡ c .margin
-  unfolding claimFor claimsOf
+  unfolding claimFor claimsOf claimOf
   claim-at =
       let n : k + 1 - 1 ≡ k = omega arith in
-      let l : k < length (recordsOf xs) = rw (length-chunks 32 (length xs / 32) xs) h in
-      let m : k < length (map claimOf (recordsOf xs)) = rw (length-map (recordsOf xs) claimOf) l in
       rw (n, e, part-is 32 k xs)
-      (getD-map (λ c. c .margin) (map claimOf (recordsOf xs)) k (claimOf []) 0 m
-      ∙ ap (λ (c : Claim). c .margin) (getD-map claimOf (recordsOf xs) k [] (claimOf []) l ∙ ap claimOf (getD-chunks 32 (length xs / 32) k xs h)))
+      (List·getD-map (λ c. c .margin) (map claimOf (recordsOf xs)) k (claimOf [])
+      ∙ ap (λ (c : Claim). c .margin) (List·getD-map claimOf (recordsOf xs) k [] ∙ ap claimOf (getD-chunks 32 (length xs / 32) k xs h)))
 
   pub claim-small : firstOf (fieldChecks Claims xs) ≡ Nothing → c .margin ≤ 2560000000000000000
   claim-small good =

@@ -7,7 +7,7 @@ use Prim.Native.Nat.{ℕ, zero, suc, _+_, _*_, _≤_}
 use native.Mathlib.Omega.{arith}
 use lib.ListN.{length}
 use Rattle.records.specs.Lists.{only, sum, keep, All}
-use Rattle.records.proofs.ListLaws.{all-map, every, sum-lin, sum-ext, sum-split, all-keep, length-keep, keep-first}
+use Rattle.records.proofs.ListLaws.{all-map, every, sum-lin, sum-ext, sum-split, all-keep, length-keep, keep-out}
 
 -- a factor that is the same wherever the test passes comes out
 pull : (b : Bool) (w v u : ℕ) → (b ≡ true → v ≡ u) → only b (w * v) ≡ u * only b w
@@ -102,7 +102,7 @@ module _ {A K : Type 0} (key : A → K) (same : A → A → Bool) (same? : (x y 
   level (suc n) [] p b eh ep = sym (none p ep)
   level zero (x ∷ h) p b eh ep = absurd (omega arith)
   level (suc n) (x ∷ h) p b eh ep =
-      let gone : keep (λ y. not (same x y)) (x ∷ h) ≡ keep (λ y. not (same x y)) h = keep-first _ x h (ap not (same? x x .1 refl)) in
+      let gone : keep (λ y. not (same x y)) (x ∷ h) ≡ keep (λ y. not (same x y)) h = keep-out _ x (x ∷ h) h refl (ap not (same? x x .1 refl)) in
       omega (
         arith,
         worth-split x (x ∷ h),

@@ -11,12 +11,12 @@ use borrow.Author.Tests.{ltb-true, ltb-false}
 use Rattle.records.specs.Lists.{only, sum, All, total}
 use Rattle.records.specs.declared.legs.Leg.{Leg}
 use Rattle.records.specs.declared.claims.Claim.{Claim}
-use Rattle.records.proofs.ListLaws.{every, sum-bound}
+use Rattle.records.proofs.ListLaws.{only-le, every, sum-bound}
 use Rattle.records.proofs.TableLaws.{Ranges}
 use Rattle.spreads.specs.Prices.{longAt, shortAt, at, net}
 use Rattle.spreads.specs.Strikes.{marginOf}
 use Rattle.spreads.specs.Spreads.{groupOf}
-use Rattle.spreads.proofs.Bounds.{only-less, sides-small, margin-bound, legs-ranges, legs-few, legs-margin}
+use Rattle.spreads.proofs.Bounds.{sides-small, margin-bound, legs-ranges, legs-few, legs-margin}
 use Rattle.sheets.specs.Sheets.{claimFor, totalOf, Accepted}
 use Rattle.sheets.proofs.Groups.{by-group-upto, total-le, total-ext, total-claims}
 
@@ -67,7 +67,7 @@ module _ (p : List Leg) (ranges : All (Ranges 32) p) (few : length p ≤ 256) wh
             (λ g a b. omega (arith, margin-bound (groupOf g p) (legs-ranges p ranges few g), sum-fixed 10000000000000000 (groupOf g p))),
         by-group-upto (λ l. 10000000000000000) (λ l. l .group) p n,
         sum-bound (λ l. only (leb (l .group) n) 10000000000000000) 10000000000000000 p
-            (every p (λ l. only-less (leb (l .group) n) 10000000000000000)),
+            (every p (λ l. only-le (leb (l .group) n) 10000000000000000)),
       )
 
   -- no accepted total

@@ -1,6 +1,6 @@
 -- How much legs within their ranges can be worth at a price that a strike can have, and how much a group can lose.
 use Prim.Native.Nat.{ℕ, zero, suc, _-_, _*_, _/_, _≤_, _<_}
-use mathlib.Core.Bool.{Bool, true, false}
+use mathlib.Core.Bool.{Bool}
 use mathlib.Core.List.{List, [], _∷_}
 use native.Mathlib.Nat.{mul-le-mul}
 use native.Mathlib.Numerals.{add-one}
@@ -14,7 +14,7 @@ use Rattle.records.specs.Tables.{tableChecks, fieldChecks, legsOf, legsFrom}
 use Rattle.records.specs.declared.legs.Leg.{Leg}
 use Rattle.records.specs.declared.tables.Kind.the-variants.{Placement}
 use Rattle.records.proofs.ChunkLaws.{legs-all, legs-step}
-use Rattle.records.proofs.ListLaws.{all-map, all-keep, length-keep, sum-bound}
+use Rattle.records.proofs.ListLaws.{only-le, all-map, all-keep, length-keep, sum-bound}
 use Rattle.records.proofs.OrderLaws.{clear, unclear}
 use Rattle.records.proofs.TableLaws.{Ranges, units-small, placement-ranges, length-legs, whole}
 use Rattle.spreads.specs.Prices.{intrinsic, value, longAt, shortAt, at, lossAt}
@@ -25,14 +25,10 @@ use Rattle.spreads.proofs.StrikeSums.{margin-legs}
 
 -- ---- one leg
 
-pub only-less : (b : Bool) (x : ℕ) → only b x ≤ x
-only-less true x = omega arith
-only-less false x = omega arith
-
 intrinsic-small : (k : ℕ) (l : Leg) → Ranges 32 l → k < top → intrinsic 1 k l ≤ 100000000
 unfolding intrinsic
 intrinsic-small k l r h =
-    omega (arith, only-less (isCall l) (k - 1 * l .strike), only-less (isPut l) (1 * l .strike - k), r .strike)
+    omega (arith, only-le (isCall l) (k - 1 * l .strike), only-le (isPut l) (1 * l .strike - k), r .strike)
 
 -- at most 100,000,000 units of 100,000,000 mills
 pub worth-small : (k : ℕ) (l : Leg) → Ranges 32 l → k < top → units l * intrinsic 1 k l ≤ 10000000000000000
@@ -45,7 +41,7 @@ module _ (k : ℕ) (legs : List Leg) (r : All (Ranges 32) legs) (h : k < top) wh
   unfolding value
   side-bound side =
       sum-bound _ 10000000000000000 legs
-      (all-map legs (λ l q. omega (arith, worth-small k l q h, only-less (side l) (units l * intrinsic 1 k l))) r)
+      (all-map legs (λ l q. omega (arith, worth-small k l q h, only-le (side l) (units l * intrinsic 1 k l))) r)
 
   loss-bound : lossAt legs k ≤ 10000000000000000 * length legs
   unfolding lossAt shortAt

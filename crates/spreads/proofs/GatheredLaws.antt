@@ -10,14 +10,13 @@ use Rattle.records.specs.Lists.{only, sum, most, least, All}
 use Rattle.records.specs.Legs.{isLong, isShort, isCall, isPut, units, unitsOf, plusUnits}
 use Rattle.records.specs.declared.counts.Units.{Units}
 use Rattle.records.specs.declared.legs.Leg.{Leg}
-use Rattle.records.proofs.ListLaws.{all-map, sum-bound}
+use Rattle.records.proofs.ListLaws.{only-le, all-map, sum-bound}
 use Rattle.records.proofs.TableLaws.{Ranges, units-small}
 use Rattle.spreads.specs.Spreads.{oneOf, unitsIn, latestShort, earliestLong, never}
 use Rattle.spreads.specs.Gathered.{withFirsts, withUnits, withRight, withExpiry, withLife, withLeg, noFacts, gathered}
 use Rattle.spreads.specs.declared.facts.Sides.{Sides}
 use Rattle.spreads.specs.declared.facts.Lives.{Lives}
 use Rattle.spreads.specs.declared.facts.Facts.{Facts}
-use Rattle.spreads.proofs.Bounds.{only-less}
 use Rattle.spreads.proofs.FirstsLaws.{firsts-are}
 
 -- ---- each part of the facts is gathered by itself
@@ -65,7 +64,7 @@ units-fit side right legs r few =
     omega (
       arith,
       sum-bound (λ l. only (side l) (only (right l) (units l))) 100000000 legs
-          (all-map legs (λ l q. omega (arith, only-less (side l) (only (right l) (units l)), only-less (right l) (units l), units-small 32 l q)) r),
+          (all-map legs (λ l q. omega (arith, only-le (side l) (only (right l) (units l)), only-le (right l) (units l), units-small 32 l q)) r),
     )
 
 units-are : (right : Leg → Bool) (legs : List Leg) → All (Ranges 32) legs → length legs ≤ 256

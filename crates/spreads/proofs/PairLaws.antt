@@ -3,18 +3,17 @@ use Prim.Native.Nat.{ℕ, zero, suc, _+_, _/_}
 use mathlib.Core.Path.{_≡_, refl}
 use mathlib.Core.Bool.{Bool, true, false, cond, not, _&&_, _||_, and-true, and-assoc, and-comm}
 use mathlib.Core.List.{List, [], _∷_, _++_, map-append, append-nil}
-use native.Mathlib.Nat.{mul-zero, mul-suc, add-zero, add-comm, suc-add, zero-add}
+use native.Mathlib.Nat.{add-zero, zero-add}
 use native.Mathlib.Omega.{arith}
-use lib.ListN.{length, drop}
-use lib.Seq.{drop-drop}
+use lib.ListN.{length}
 use lib.Dec.{eqb}
 use borrow.Author.Tests.{eqb-true}
-use Rattle.records.specs.Chunks.{chunks, chunkAt}
+use Rattle.records.specs.Chunks.{chunkAt}
 use Rattle.records.specs.Lists.{keep, allb}
 use Rattle.records.specs.Legs.{legOf}
 use Rattle.records.specs.Tables.{legsOf}
 use Rattle.records.specs.declared.legs.Leg.{Leg}
-use Rattle.records.proofs.ChunkLaws.{chunks-all, chunks-none}
+use Rattle.records.proofs.ChunkLaws.{chunks-all, chunks-none, chunks-more}
 use Rattle.spreads.specs.Spreads.{groupOf, sameSeries, doubled, noneDoubled}
 use Rattle.spreads.specs.Search.{clash, legsBetween, pairWith, firstPair}
 use Rattle.spreads.specs.declared.pairs.Pair.{Pair}
@@ -74,11 +73,6 @@ module _ (g : ℕ) (x : Leg) (legs : List Leg) where
 abbrev pub isClear : Pair → Bool
 isClear (At j i) = false
 isClear Nothing = true
-
-chunks-more : (size n : ℕ) (xs : List ℕ) → chunks size (n + 1) xs ≡ chunks size n xs ++ chunkAt size xs n ∷ []
-unfolding chunks
-chunks-more size zero xs = simp mul-zero
-chunks-more size (suc n) xs = rw (suc-add n 1, chunks-more size n (drop size xs)) (simp (drop-drop, mul-suc, add-comm))
 
 module _ (g : ℕ) (xs : List ℕ) where
   legs-more : (j : ℕ) → legsBetween xs 0 (j + 1) ≡ legsBetween xs 0 j ++ legOf (chunkAt 32 xs j) ∷ []

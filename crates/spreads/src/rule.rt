@@ -2,7 +2,6 @@
 ghost use mathlib.Core.Path.{_≡_};
 ghost use Rattle.records.specs.Order.{firstOf};
 ghost use Rattle.records.specs.Tables.{legsOf};
-ghost use Rattle.records.specs.declared.refusals.Fault.the-variants.{Nothing, Is};
 ghost use Rattle.spreads.specs.Spreads.{groupOf, spreadChecks};
 ghost use Rattle.spreads.specs.Steps.{Placed, faultNumber};
 use crate::facts::Facts;

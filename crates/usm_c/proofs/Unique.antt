@@ -1,5 +1,5 @@
 -- The promise of each call settles its outcome, the answer with what the lent slices hold then: two outcomes that meet it are equal.
-use mathlib.Core.Path.{_≡_, sym, _∙_}
+use mathlib.Core.Path.{_≡_}
 use mathlib.Core.List.{List}
 use Prim.Native.Nat.{ℕ}
 use lib.IntN.{ℤ}

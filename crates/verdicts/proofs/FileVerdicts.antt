@@ -9,13 +9,13 @@ use Rattle.records.specs.declared.refusals.Refusal.{Refusal}
 use Rattle.records.specs.declared.refusals.Fault.{Fault}
 use Rattle.records.specs.declared.refusals.Fault.the-variants.{Nothing, Is}
 use Rattle.records.specs.declared.tables.Kind.the-variants.{Holdings, Placement, Claims}
-use Rattle.records.proofs.PutLaws.{length-putAt}
+use Rattle.records.proofs.PutLaws.{length-putAt, put-front}
 use Rattle.blocks.specs.File.{tablesIn}
 use Rattle.blocks.specs.Reader.{readChecks, countsOf, reading, readOf, leaves}
 use Rattle.blocks.specs.declared.reader.Counts.{Counts}
 use Rattle.blocks.specs.declared.reader.Reading.the-variants.{Read, Refused as Refused-reading}
 use Rattle.blocks.proofs.ReadLaws.{Bytes, read-bytes}
-use Rattle.blocks.proofs.TablesFit.{read-roomy, put-front}
+use Rattle.blocks.proofs.TablesFit.{read-roomy}
 use Rattle.sheets.specs.Verdicts.{verdictOf}
 use Rattle.sheets.specs.declared.sheet.Verdict.the-variants.{Refused}
 use Rattle.verdicts.specs.FileVerdicts.{fileVerdict}
