@@ -5,7 +5,7 @@ use Rattle.sheets.proofs.lines.same_line_side.Tie as tie
 
 returns : tie.Need-returns
 unfolding sameLineSide
-returns c = cc
+returns c = rw (c .same-line .ensures)
 
 pub same-line-side-spec : {M : Type 1} → statement M
 same-line-side-spec = tie.close (tie.spec (λ c κs. search needs) returns)
