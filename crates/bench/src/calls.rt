@@ -102,7 +102,7 @@ fn wide(strike: u32) -> usize {
 }
 
 // The first n strikes, each with its net.
-fn print_sheet(strikes: &[u32], nets: &[i64], n: usize) {
+fn print_nets(strikes: &[u32], nets: &[i64], n: usize) {
     let mut i: usize = 0;
     while i < n {
         if i < strikes.len() {
@@ -131,7 +131,7 @@ fn print_worksheet(
         Listed::Entries(count) => {
             print_number(count);
             print(b":");
-            print_sheet(strikes, nets, count);
+            print_nets(strikes, nets, count);
             print_kept(kept_strikes(strikes, count) & kept_mills(nets, count));
         }
         Listed::Refused(refusal) => {

@@ -1,7 +1,7 @@
 use Prim.Native.Nat.{_-_}
 use borrow.Author.Needs.{needs}
-use Rattle.bench.proofs.calls.print_sheet.Statement.{statement}
-use Rattle.bench.proofs.calls.print_sheet.Tie as tie
+use Rattle.bench.proofs.calls.print_nets.Statement.{statement}
+use Rattle.bench.proofs.calls.print_nets.Tie as tie
 
 abbrev Inv-loop : tie.InvT-loop
 Inv-loop strikes nets n i₀ t5 t6 i = Unit {0}
@@ -9,8 +9,8 @@ Inv-loop strikes nets n i₀ t5 t6 i = Unit {0}
 abbrev μ-loop : tie.MeasureT-loop
 μ-loop strikes nets n i₀ t5 t6 i = n - i
 
-pub print-sheet-spec : {M : Type 1} → statement M
-print-sheet-spec =
+pub print-nets-spec : {M : Type 1} → statement M
+print-nets-spec =
     tie.close
     (tie.spec
     Inv-loop
