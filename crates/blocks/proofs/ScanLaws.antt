@@ -18,8 +18,8 @@ use Rattle.records.specs.declared.tables.Kind.the-variants.{Holdings, Placement
 use Rattle.records.proofs.ListLaws.{only-le}
 use Rattle.records.proofs.OrderLaws.{first-append}
 use Rattle.blocks.specs.Block.{kindOf, countOf, sumsAgree, formed}
-use Rattle.blocks.specs.File.{blocksOf, countAs, recordsAs, joined, tablesIn, follows, withinLimits, blockChecks, blocksChecks}
-use Rattle.blocks.specs.Steps.{nothingYet, soFar, grown, mayFollow, inLimits, Small, Sized, blockFault, scanOf}
+use Rattle.blocks.specs.File.{blocksOf, countAs, recordsAs, joined, tablesIn, prevOf, mayFollow, follows, withinLimits, blockChecks, blocksChecks}
+use Rattle.blocks.specs.Steps.{nothingYet, soFar, grown, smallEnough, Small, Sized, blockFault, scanOf}
 use Rattle.blocks.specs.declared.scanner.SoFar.{SoFar}
 use Rattle.blocks.specs.declared.reader.Reading.the-variants.{Read}
 use Rattle.blocks.proofs.BlockLaws.{formed-is}
@@ -49,7 +49,7 @@ pub block-first : (n : ℕ) (before : List (List ℕ)) (b : List ℕ)
     → firstOf (blockChecks n before b) ≡ found (blockFault (soFar before) (length before) n b) (length before)
 unfolding blockChecks blockFault follows withinLimits sum
 block-first n before b =
-    four (sumsAgree b) (formed (length before) n b) (mayFollow (soFar before) (kindOf b)) (inLimits (grown (soFar before) (kindOf b) (countOf b))) (length before)
+    four (sumsAgree b) (formed (length before) n b) (mayFollow (kindOf (prevOf before)) (countOf (prevOf before)) (kindOf b)) (smallEnough (grown (soFar before) (kindOf b) (countOf b))) (length before)
 
 three : (a b c : Bool) → _≡_ {A = ℕ} (cond a (cond b (cond c 0 3) 3) 2) 0 → (a ≡ true) × (b ≡ true) × (c ≡ true)
 three true true true e = (refl, refl, refl)
@@ -59,14 +59,14 @@ three false b c e = absurd (omega arith)
 
 -- what a block without a fault is
 pub no-fault : (s : SoFar) (i n : ℕ) (b : List ℕ) → blockFault s i n b ≡ 0
-    → (sumsAgree b ≡ true) × (formed i n b ≡ true) × (mayFollow s (kindOf b) ≡ true) × (inLimits (grown s (kindOf b) (countOf b)) ≡ true)
+    → (sumsAgree b ≡ true) × (formed i n b ≡ true) × (mayFollow (s .kind) (s .count) (kindOf b) ≡ true) × (smallEnough (grown s (kindOf b) (countOf b)) ≡ true)
 unfolding blockFault
 no-fault s i n b e =
-    let t = three (sumsAgree b) (formed i n b) (mayFollow s (kindOf b) && inLimits (grown s (kindOf b) (countOf b))) e in
-    let q = and-eq-true-iff (mayFollow s (kindOf b)) (inLimits (grown s (kindOf b) (countOf b))) .0 (t .2) in
+    let t = three (sumsAgree b) (formed i n b) (mayFollow (s .kind) (s .count) (kindOf b) && smallEnough (grown s (kindOf b) (countOf b))) e in
+    let q = and-eq-true-iff (mayFollow (s .kind) (s .count) (kindOf b)) (smallEnough (grown s (kindOf b) (countOf b))) .0 (t .2) in
     (t .0, t .1, q .0, q .1)
 
-pub in-limits : (s : SoFar) → inLimits s ≡ true → Small s
+pub in-limits : (s : SoFar) → smallEnough s ≡ true → Small s
 in-limits s e =
     let p = and-eq-true-iff (leb (s .holdings) 256 && leb (s .placement) 256) (leb (s .claims) 32) .0 e in
     let q = and-eq-true-iff (leb (s .holdings) 256) (leb (s .placement) 256) .0 (p .0) in

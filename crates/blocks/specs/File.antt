@@ -8,7 +8,7 @@ use Rattle.records.specs.Chunks.{chunks}
 use Rattle.records.specs.Dates.{within}
 use Rattle.records.specs.Lists.{only, sum}
 use Rattle.records.specs.Order.{Check, ask}
-use Rattle.records.specs.Tables.{tableNumber, limitOf, fieldsChecks}
+use Rattle.records.specs.Tables.{tableNumber, inLimit, fieldsChecks}
 use Rattle.records.specs.declared.tables.Kind.{Kind}
 use Rattle.records.specs.declared.tables.Kind.the-variants.{Holdings, Placement, Claims}
 use Rattle.blocks.specs.Block.{kindOf, countOf, sumsAgree, formed, blockOf}
@@ -40,9 +40,12 @@ wholeFile bytes = eqb (bytes % 512) 0 && within 1 39 (bytes / 512)
 abbrev pub blocksOf : List ℕ → List (List ℕ)
 blocksOf file = chunks 512 (length file / 512) file
 
--- how many of a block's records are of a kind: all or none
+-- how many of so many records of a block of kind k are a table's: all or none
+abbrev pub countedAs : Kind → ℕ → ℕ → ℕ
+countedAs kind k count = only (eqb k (tableNumber kind)) count
+
 abbrev pub countAs : Kind → List ℕ → ℕ
-countAs kind b = only (eqb (kindOf b) (tableNumber kind)) (countOf b)
+countAs kind b = countedAs kind (kindOf b) (countOf b)
 
 abbrev pub recordsAs : Kind → List ℕ → List ℕ
 recordsAs kind b = take (32 * countAs kind b) (drop 16 b)
@@ -61,18 +64,19 @@ abbrev pub prevOf : List (List ℕ) → List ℕ
 prevOf [] = []
 prevOf (b ∷ before) = b
 
--- 'Kinds never fall.' 'Only a kind's last block may hold fewer than 15.'
-unfoldable pub follows : List (List ℕ) → List ℕ → Bool
-follows before b =
-    leb (kindOf (prevOf before)) (kindOf b)
-    && (not (eqb (kindOf (prevOf before)) (kindOf b)) || eqb (countOf (prevOf before)) 15)
+-- 'Kinds never fall.' 'Only a kind's last block may hold fewer than 15.' Of the kind and count before, and the kind next.
+abbrev pub mayFollow : ℕ → ℕ → ℕ → Bool
+mayFollow kind count next = leb kind next && (not (eqb kind next) || eqb count 15)
 
--- no 'table passes its limit' with the records of these blocks
-abbrev pub fits : Kind → List (List ℕ) → Bool
-fits kind bs = leb (sum (countAs kind) bs) (limitOf kind)
+unfoldable pub follows : List (List ℕ) → List ℕ → Bool
+follows before b = mayFollow (kindOf (prevOf before)) (countOf (prevOf before)) (kindOf b)
+
+-- no 'table passes its limit', of so many records each
+abbrev pub inLimits : ℕ → ℕ → ℕ → Bool
+inLimits h p c = inLimit Holdings h && inLimit Placement p && inLimit Claims c
 
 unfoldable pub withinLimits : List (List ℕ) → Bool
-withinLimits bs = fits Holdings bs && fits Placement bs && fits Claims bs
+withinLimits bs = inLimits (sum (countAs Holdings) bs) (sum (countAs Placement) bs) (sum (countAs Claims) bs)
 
 -- what is asked of block b of a file of n blocks, after those before it: 2, then 3, at this block
 unfoldable pub blockChecks : ℕ → List (List ℕ) → List ℕ → List Check

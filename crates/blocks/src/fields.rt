@@ -2,47 +2,27 @@
 ghost use mathlib.Core.Path.{_≡_};
 ghost use Prim.Native.Nat.{_*_, _≤_};
 ghost use Rattle.records.specs.Lists.{All};
-ghost use Rattle.records.specs.Chunks.{recordsOf};
 ghost use Rattle.records.specs.Order.{firstOf};
-ghost use Rattle.records.specs.Tables.{goodRecord, fieldChecks};
+ghost use Rattle.records.specs.Tables.{fieldChecks};
 ghost use Rattle.blocks.specs.File.{blocksOf, countAs, joined, tablesIn, recordChecks};
-ghost use Rattle.blocks.specs.Steps.{Sized, goodFront};
+ghost use Rattle.blocks.specs.Steps.{Sized};
 use crate::form::BLOCK_BYTES;
 use crate::form::COUNT_AT;
 use crate::form::KIND_AT;
 use crate::form::RECORDS_AT;
-use crate::form::kind_number;
 use crate::scanner::counted_as;
 use records::Fault;
 use records::Kind;
 use records::RECORD_BYTES;
 use records::Refusal;
-use records::good_record;
+use records::field_fault;
 
 // How many bytes of records of a kind a block has.
 pub(crate) fn bytes_as(kind: Kind, block: &[u8]) -> usize
     requires { ⌜ Sized (now block) ⌝ }
     ensures { λ r. ⌜ (r ≡ 32 * countAs kind (now (block .entry))) × (r ≤ 480) ⌝ }
 {
-    RECORD_BYTES * counted_as(kind_number(kind), block[KIND_AT], block[COUNT_AT])
-}
-
-// How many records stand before the first that has a field out of range: all, where none has.
-fn good_front(kind: Kind, records: &[u8]) -> usize
-    ensures { λ r. ⌜ r ≡ goodFront (goodRecord kind) (recordsOf (now (records .entry))) ⌝ }
-{
-    let n = records.len() / RECORD_BYTES;
-    let mut i: usize = 0;
-    while i < n {
-        let at = RECORD_BYTES * i;
-        let end = at + RECORD_BYTES;
-        if good_record(kind, &records[at..end]) {
-            i += 1;
-        } else {
-            return i;
-        }
-    }
-    i
+    RECORD_BYTES * counted_as(kind, block[KIND_AT], block[COUNT_AT])
 }
 
 // The first record of a kind with a field out of range, counted over the kind's blocks.
@@ -59,12 +39,12 @@ fn kind_fault(file: &[u8], kind: Kind) -> Fault
         let size = bytes_as(kind, &file[a..e]);
         let from = a + RECORDS_AT;
         let to = from + size;
-        let good = good_front(kind, &file[from..to]);
-        if good < size / RECORD_BYTES {
+        let fault = field_fault(kind, &file[from..to]);
+        if let Fault::Is(refusal) = fault {
             return Fault::Is(Refusal {
-                number: 4,
-                table: kind_number(kind),
-                place: first + good,
+                number: refusal.number,
+                table: refusal.table,
+                place: first + refusal.place,
             });
         }
         first += size / RECORD_BYTES;

@@ -1,11 +1,9 @@
 // A block's bytes outside its records and checks: 0-15, unused places, 496-507.
 ghost use mathlib.Core.Path.{_≡_};
 ghost use lib.ListN.{length};
-ghost use Rattle.records.specs.Tables.{tableNumber};
 ghost use Rattle.blocks.specs.Block.{headOf, headFits, tailFits, formed};
 use crate::bytes::all_zero;
 use crate::bytes::equal;
-use records::Kind;
 use records::RECORD_BYTES;
 use records::u16_at;
 
@@ -34,17 +32,6 @@ pub(crate) const FULL_BYTES: usize = 480;
 
 // Bytes 0 to 3 of each block, "USM1": stored on writing, compared on reading.
 const MARK: [u8; 4] = [0x55, 0x53, 0x4D, 0x31];
-
-// The number by which a block, and a refusal, names a table.
-pub(crate) fn kind_number(kind: Kind) -> u8
-    ensures { λ r. ⌜ r ≡ tableNumber kind ⌝ }
-{
-    match kind {
-        Kind::Holdings => 1,
-        Kind::Placement => 2,
-        Kind::Claims => 3,
-    }
-}
 
 // Bytes 0 to 15 of a block.
 pub(crate) fn head_bytes(kind: u8, count: u8, number: u16, blocks: u16) -> [u8; 16]

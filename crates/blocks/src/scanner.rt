@@ -4,10 +4,8 @@ ghost use mathlib.Core.Path.{_≡_};
 ghost use mathlib.Core.Bool.{true};
 ghost use Prim.Native.Nat.{_≤_};
 ghost use lib.ListN.{length};
-ghost use Rattle.records.specs.Lists.{only};
-ghost use lib.Dec.{eqb};
-ghost use Rattle.blocks.specs.File.{wholeFile};
-ghost use Rattle.blocks.specs.Steps.{Small, nothingYet, grown, mayFollow, inLimits, blockFault, scanOf};
+ghost use Rattle.blocks.specs.File.{wholeFile, countedAs, mayFollow};
+ghost use Rattle.blocks.specs.Steps.{Small, nothingYet, grown, smallEnough, blockFault, scanOf};
 use crate::checks::sums_agree;
 use crate::form::BLOCK_BYTES;
 use crate::form::COUNT_AT;
@@ -19,6 +17,7 @@ use crate::reader::Reading;
 use records::Kind;
 use records::RECORD_BYTES;
 use records::Refusal;
+use records::table_number;
 use records::whole_table;
 
 // What is known of the blocks so far: the last one's kind and count, and the records of each kind.
@@ -30,11 +29,15 @@ pub(crate) struct SoFar {
     claims: usize,
 }
 
-// How many of a block's records are of the kind with this number: all or none.
-pub(crate) fn counted_as(number: u8, kind: u8, count: u8) -> usize
-    ensures { λ r. ⌜ (r ≡ only (eqb kind number) count) × (r ≤ count) ⌝ }
+// How many of a block's records are a table's: all or none.
+pub(crate) fn counted_as(table: Kind, kind: u8, count: u8) -> usize
+    ensures { λ r. ⌜ (r ≡ countedAs table kind count) × (r ≤ count) ⌝ }
 {
-    if kind == number { count as usize } else { 0 }
+    if kind == table_number(table) {
+        count as usize
+    } else {
+        0
+    }
 }
 
 impl SoFar {
@@ -55,9 +58,9 @@ impl SoFar {
         requires { ⌜ Small self × (count ≤ 15) ⌝ }
         ensures { λ r. ⌜ r ≡ grown self kind count ⌝ }
     {
-        let holdings = counted_as(1, kind, count) + self.holdings;
-        let placement = counted_as(2, kind, count) + self.placement;
-        let claims = counted_as(3, kind, count) + self.claims;
+        let holdings = counted_as(Kind::Holdings, kind, count) + self.holdings;
+        let placement = counted_as(Kind::Placement, kind, count) + self.placement;
+        let claims = counted_as(Kind::Claims, kind, count) + self.claims;
         SoFar {
             kind,
             count,
@@ -69,7 +72,7 @@ impl SoFar {
 
     // The kind does not fall, and no short block of it came right before.
     fn may_follow(self, kind: u8) -> bool
-        ensures { λ r. ⌜ r ≡ mayFollow self kind ⌝ }
+        ensures { λ r. ⌜ r ≡ mayFollow (self .kind) (self .count) kind ⌝ }
     {
         (self.kind <= kind) & (!(self.kind == kind) | (self.count == FULL))
     }
@@ -77,7 +80,7 @@ impl SoFar {
     // No table is over its limit.
     fn in_limits(self) -> bool
         requires { ⌜ (self .holdings ≤ 300) × (self .placement ≤ 300) × (self .claims ≤ 300) ⌝ }
-        ensures { λ r. ⌜ r ≡ inLimits self ⌝ }
+        ensures { λ r. ⌜ r ≡ smallEnough self ⌝ }
     {
         whole_table(Kind::Holdings, RECORD_BYTES * self.holdings)
             & whole_table(Kind::Placement, RECORD_BYTES * self.placement)

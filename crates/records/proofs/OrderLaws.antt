@@ -6,6 +6,7 @@ use mathlib.Core.List.{List, [], _∷_, _++_}
 use native.Mathlib.Decide.{ℕ-discrete}
 use native.Mathlib.Numerals.{add-one}
 use native.Mathlib.Omega.{arith}
+use lib.ListN.{length}
 use Rattle.records.specs.Lists.{All}
 use Rattle.records.specs.Order.{Check, refuse, firstOf, askEach, groups, inOrder, orElse}
 use Rattle.records.specs.declared.refusals.Refusal.{Refusal}
@@ -29,6 +30,41 @@ module _ {A : Type 0} (good : A → Bool) (number table i : ℕ) where
   pub ask-none : (l : List A) → l ≡ [] → firstOf (askEach good number table i l) ≡ Nothing
   unfolding firstOf askEach
   ask-none l e = rw e
+
+-- ---- a list asked part by part
+
+-- the same refusal, of an element that stands so much further on
+abbrev pub moved : ℕ → Fault → Fault
+moved n Nothing = Nothing
+moved n (Is r) = Is (refuse (r .number) (r .table) (n + r .place))
+
+module _ {A : Type 0} (good : A → Bool) (number table : ℕ) where
+  pub ask-append : (i : ℕ) (a b : List A)
+      → askEach good number table i (a ++ b) ≡ askEach good number table i a ++ askEach good number table (i + length a) b
+  unfolding askEach
+  ask-append i [] b = let q : i + 0 ≡ i = omega arith in rw q
+  ask-append i (x ∷ a) b = let q : i + suc (length a) ≡ i + 1 + length a = omega arith in rw (q, ask-append (i + 1) a b)
+
+  pub ask-moved : (n i : ℕ) (l : List A) → firstOf (askEach good number table (n + i) l) ≡ moved n (firstOf (askEach good number table i l))
+  unfolding firstOf askEach
+  ask-moved n i [] = refl
+  ask-moved n i (x ∷ l) = go (good x) (ask-moved n (i + 1) l)
+    where
+      go : (t : Bool) → firstOf (askEach good number table (n + (i + 1)) l) ≡ moved n (firstOf (askEach good number table (i + 1) l))
+          → cond t (firstOf (askEach good number table (n + i + 1) l)) (Is (refuse number table (n + i)))
+          ≡ moved n (cond t (firstOf (askEach good number table (i + 1) l)) (Is (refuse number table i)))
+      go true e = let q : n + i + 1 ≡ n + (i + 1) = omega arith in rw q e
+      go false e = refl
+
+  pub ask-place : (i : ℕ) (l : List A) (r : Refusal) → firstOf (askEach good number table i l) ≡ Is r → r .place < i + length l
+  unfolding firstOf askEach
+  ask-place i [] r e = let z : _≡_ {A = ℕ} 0 1 = cc in absurd (omega arith)
+  ask-place i (x ∷ l) r e = go (good x) e (ask-place (i + 1) l r)
+    where
+      go : (t : Bool) → cond t (firstOf (askEach good number table (i + 1) l)) (Is (refuse number table i)) ≡ Is r
+          → (firstOf (askEach good number table (i + 1) l) ≡ Is r → r .place < i + 1 + length l) → r .place < i + suc (length l)
+      go true q f = omega (arith, f q)
+      go false q f = let z : r .place ≡ i = cc in omega arith
 
 -- one list of checks after the other: the first fault of the first, else that of the second
 pub first-append : (a b : List Check) → firstOf (a ++ b) ≡ orElse (firstOf a) (firstOf b)

@@ -29,6 +29,9 @@ limitOf Holdings = 256
 limitOf Placement = 256
 limitOf Claims = 32
 
+abbrev pub inLimit : Kind → ℕ → Bool
+inLimit kind records = leb records (limitOf kind)
+
 -- 'group, 0 to 32; in holdings 0 only'
 abbrev pub goodRecord : Kind → List ℕ → Bool
 goodRecord Holdings xs = goodLeg 0 xs
@@ -37,7 +40,7 @@ goodRecord Claims xs = goodClaim xs
 
 -- a table of so many bytes is of whole records and within its limit
 abbrev pub wholeTable : Kind → ℕ → Bool
-wholeTable kind bytes = eqb (bytes % 32) 0 && leb (bytes / 32) (limitOf kind)
+wholeTable kind bytes = eqb (bytes % 32) 0 && inLimit kind (bytes / 32)
 
 -- three tables of so many bytes, each of them so
 abbrev pub wholeTables : ℕ → ℕ → ℕ → Bool

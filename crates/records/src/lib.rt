@@ -28,4 +28,5 @@ pub use tables::check_table;
 pub use tables::field_fault;
 pub use tables::fields_fault;
 pub use tables::good_record;
+pub use tables::table_number;
 pub use tables::whole_table;

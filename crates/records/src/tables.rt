@@ -22,7 +22,8 @@ pub enum Counted {
     Refused(Refusal),
 }
 
-fn table_number(kind: Kind) -> u8
+// The number by which a refusal, and a block, names a table.
+pub fn table_number(kind: Kind) -> u8
     ensures { λ r. ⌜ r ≡ tableNumber kind ⌝ }
 {
     match kind {
