@@ -9,45 +9,19 @@ use lib.ListN.{length}
 use Rattle.records.specs.Lists.{All}
 use Rattle.records.specs.Order.{firstOf}
 use Rattle.records.specs.Tables.{legsOf, claimsOf, fieldChecks}
-use Rattle.records.specs.declared.legs.Leg.{Leg}
-use Rattle.records.specs.declared.claims.Claim.{Claim}
 use Rattle.records.specs.declared.refusals.Fault.{Fault}
 use Rattle.records.specs.declared.refusals.Fault.the-variants.{Nothing, Is}
 use Rattle.records.specs.declared.tables.Kind.the-variants.{Placement}
-use Rattle.records.proofs.OrderLaws.{clear, unclear}
+use Rattle.records.proofs.OrderLaws.{unclear}
 use Rattle.records.proofs.TableLaws.{Ranges, placement-ranges, length-legs, whole}
-use Rattle.spreads.specs.Prices.{at}
 use Rattle.spreads.specs.Spreads.{groupOf}
 use Rattle.sheets.specs.Demands.{Covers, Sound, Kept, AcceptedJust, AcceptedCovers, AcceptedLeast, AcceptedLimit}
-use Rattle.sheets.specs.Sheets.{claimFor, totalOf, Accepted, ruleChecks, sheetChecks}
+use Rattle.sheets.specs.Sheets.{claimFor, totalOf, sheetChecks}
 use Rattle.sheets.specs.Verdicts.{verdictIn, verdictOf}
 use Rattle.sheets.specs.declared.sheet.Verdict.the-variants.{Accepted as Accepted-verdict}
-use Rattle.sheets.proofs.SheetCover.{group-cover, sheet-cover, sheet-least}
-use Rattle.sheets.proofs.Judged.{pass-rule, rule-pass, fields-pass, passes-kept, kept-passes}
+use Rattle.sheets.proofs.SheetCover.{group-cover, sheet-cover, group-least}
+use Rattle.sheets.proofs.Judged.{fields-pass, passes-kept, kept-passes}
 use Rattle.sheets.proofs.Limits.{limit, total-limit}
-
--- ---- of lists
-
-module _ (h p : List Leg) (c : List Claim) where
-  -- 'Accepted when': nothing is refused just where the rule is kept
-  pub rule-just : (firstOf (ruleChecks h p c) ≡ Nothing) ↔ Accepted h p c
-  rule-just = ((λ e. pass-rule h p c (clear (ruleChecks h p c) e)), λ ok. unclear (ruleChecks h p c) (rule-pass h p c ok))
-
-  module _ (ok : Accepted h p c) where
-    -- the holdings are covered by the total at every price of each underlying
-    pub rule-covers : Covers (totalOf c) h
-    rule-covers d one n = sheet-cover h p c ok d n
-
-    module _ (g : ℕ) (low : 1 ≤ g) (high : g ≤ length c) where
-      -- each claim covers its group
-      pub claim-covers : Covers (claimFor c g) (groupOf g p)
-      claim-covers d one n = group-cover h p c ok d n g low high
-
-      -- and nothing smaller does
-      pub claim-least : (m : ℕ) → m < claimFor c g → ¬ Covers m (groupOf g p)
-      claim-least m k covers =
-          let x = sheet-least h p c ok g low high m k in
-          omega (arith, x .2, covers 1 (omega arith) (at (x .0 .strike)))
 
 -- ---- of the bytes of the three tables
 
@@ -85,7 +59,7 @@ module _ (h p c : List ℕ) (n : ℕ) where
 
     -- an accepted sheet's total covers the holdings at every price of each underlying
     pub accepted-covers : Covers total (legsOf h)
-    accepted-covers = rw amount (rule-covers (legsOf h) (legsOf p) (claimsOf c) (kept .rule))
+    accepted-covers = rw amount (sheet-cover (legsOf h) (legsOf p) (claimsOf c) (kept .rule))
 
     -- 'no accepted sheet's total passes 2,560,000,000,000,000,000'
     pub accepted-limit : total ≤ limit
@@ -99,11 +73,11 @@ module _ (h p c : List ℕ) (n : ℕ) where
     module _ (g : ℕ) (low : 1 ≤ g) (high : g ≤ n) where
       -- every one of its claims covers its group at every price
       pub accepted-claim-covers : Covers (claimFor (claimsOf c) g) (groupOf g (legsOf p))
-      accepted-claim-covers = claim-covers (legsOf h) (legsOf p) (claimsOf c) (kept .rule) g low (omega (arith, count))
+      accepted-claim-covers = group-cover (legsOf h) (legsOf p) (claimsOf c) (kept .rule) g low (omega (arith, count))
 
       -- and no smaller margin covers any one group
       pub accepted-claim-least : (m : ℕ) → m < claimFor (claimsOf c) g → ¬ Covers m (groupOf g (legsOf p))
-      accepted-claim-least = claim-least (legsOf h) (legsOf p) (claimsOf c) (kept .rule) g low (omega (arith, count))
+      accepted-claim-least = group-least (legsOf h) (legsOf p) (claimsOf c) (kept .rule) g low (omega (arith, count))
 
 -- the total of a sheet that is not refused, for the code that adds it up
 pub passed-limit : (h p c : List ℕ) → firstOf (sheetChecks h p c) ≡ Nothing → totalOf (claimsOf c) ≤ limit
@@ -113,10 +87,7 @@ passed-limit h p c e = accepted-limit h p c (length (claimsOf c)) (totalOf (clai
 -- ---- the demands, as specs/Demands.antt states them
 
 pub just : AcceptedJust
-just h p c = (
-  (λ e. accepted-just h p c (length (claimsOf c)) (pos (totalOf (claimsOf c))) .0 e .0),
-  λ k. accepted-just h p c (length (claimsOf c)) (pos (totalOf (claimsOf c))) .1 (k, refl, refl),
-)
+just = accepted-just
 
 pub covers : AcceptedCovers
 covers = accepted-covers

@@ -9,7 +9,7 @@ use borrow.Author.Tests.{eqb-true, eq-eqb, leb-true, le-leb}
 use Rattle.records.specs.Lists.{All}
 use Rattle.records.specs.Chunks.{recordsOf}
 use Rattle.records.specs.Legs.{isShort}
-use Rattle.records.specs.Order.{firstOf, askEach}
+use Rattle.records.specs.Order.{Check, firstOf, askEach, groups}
 use Rattle.records.specs.Tables.{fieldsChecks, goodRecord, tableNumber, wholeTable, fieldChecks, legsOf, claimsOf}
 use Rattle.records.specs.declared.legs.Leg.{Leg}
 use Rattle.records.specs.declared.claims.Claim.{Claim}
@@ -17,13 +17,13 @@ use Rattle.records.specs.declared.refusals.Fault.the-variants.{Nothing}
 use Rattle.records.specs.declared.tables.Kind.{Kind}
 use Rattle.records.specs.declared.tables.Kind.the-variants.{Holdings, Placement, Claims}
 use Rattle.records.proofs.ListLaws.{all-map, every}
-use Rattle.records.proofs.OrderLaws.{Pass, clear, unclear, pass-left, pass-right, pass-both, pass-each, each-pass, pass-groups, groups-pass, pass-order, order-pass}
+use Rattle.records.proofs.OrderLaws.{Pass, clear, unclear, pass-left, pass-right, pass-both, pass-each, each-pass, pass-groups, groups-pass}
 use Rattle.records.proofs.TableLaws.{fields-good}
 use Rattle.spreads.specs.Spreads.{groupOf, spreadChecks}
 use Rattle.spreads.proofs.RuleLaws.{pass-spread, spread-pass}
 use Rattle.sheets.specs.Demands.{Sound, Kept}
 use Rattle.sheets.specs.Lines.{contractsOf, evenAt}
-use Rattle.sheets.specs.Sheets.{Numbered, Accepted, askNumbered, askClaim, askLines, ruleChecks, tablesChecks, sheetChecks}
+use Rattle.sheets.specs.Sheets.{Numbered, Accepted, askNumbered, askNamed, askPlaced, askClaim, askLines, groupsRule, ruleChecks, tablesChecks, sheetChecks}
 use Rattle.sheets.proofs.LineLaws.{even-everywhere}
 
 -- ---- each stage and its fact
@@ -70,40 +70,37 @@ both-not true true k = absurd (k refl refl)
 both-not true false k = refl
 both-not false z k = refl
 
+pass-parts : (a b : List Check) → Pass (a ++ b) → Pass a × Pass b
+pass-parts a b p = (pass-left a b p, pass-right a b p)
+
 -- ---- the rule of a sheet
 
 pub pass-rule : (h p : List Leg) (c : List Claim) → Pass (ruleChecks h p c) → Accepted h p c
-unfolding ruleChecks
+unfolding ruleChecks groupsRule
 pass-rule h p c a =
-    let s = pass-order _ a in
+    let s = pass-parts (askNumbered 0 c) _ a in
+    let named = pass-parts (askNamed (length c) p) _ (s .1) in
+    let spreads = pass-parts (groups (length c) (λ g. spreadChecks g (groupOf g p))) _ (named .1) in
+    let lines = pass-parts (askLines h p) _ (spreads .1) in
+    let placed = pass-parts (askPlaced p) _ (lines .1) in
     record {
       numbered = pass-numbered 0 c (s .0);
-      named = all-map p (λ l q. leb-true (l .group) (length c) q) (pass-each _ 5 2 0 p (s .1 .0));
-      spreads = λ g i j. pass-spread g (groupOf g p) (pass-groups (length c) (λ k. spreadChecks k (groupOf k p)) (s .1 .1 .0) g i j);
-      lines = pass-lines h p (s .1 .1 .1 .0);
-      placed = all-map p (λ l q t z. not-both (isShort l) (eqb (l .group) 0) q t (eq-eqb (l .group) 0 z)) (pass-each _ 15 2 0 p (s .1 .1 .1 .1 .0));
-      claims = λ g i j. eqb-true _ _ (pass-groups (length c) (askClaim p c) (s .1 .1 .1 .1 .1 .0) g i j .0);
+      named = all-map p (λ l q. leb-true (l .group) (length c) q) (pass-each _ 5 2 0 p (named .0));
+      spreads = λ g i j. pass-spread g (groupOf g p) (pass-groups (length c) (λ k. spreadChecks k (groupOf k p)) (spreads .0) g i j);
+      lines = pass-lines h p (lines .0);
+      placed = all-map p (λ l q t z. not-both (isShort l) (eqb (l .group) 0) q t (eq-eqb (l .group) 0 z)) (pass-each _ 15 2 0 p (placed .0));
+      claims = λ g i j. eqb-true _ _ (pass-groups (length c) (askClaim p c) (placed .1) g i j .0);
     }
 
 pub rule-pass : (h p : List Leg) (c : List Claim) → Accepted h p c → Pass (ruleChecks h p c)
-unfolding ruleChecks
+unfolding ruleChecks groupsRule
 rule-pass h p c ok =
-    order-pass _ (
-      numbered-pass 0 c (ok .numbered),
-      (
-        each-pass _ 5 2 0 p (all-map p (λ l q. le-leb (l .group) (length c) q) (ok .named)),
-        (
-          groups-pass (length c) _ (λ g i j. spread-pass g (groupOf g p) (ok .spreads g i j)),
-          (
-            lines-pass h p (ok .lines),
-            (
-              each-pass _ 15 2 0 p (all-map p (λ l q. both-not (isShort l) (eqb (l .group) 0) (λ t z. q t (eqb-true (l .group) 0 z))) (ok .placed)),
-              (groups-pass (length c) _ (λ g i j. (eq-eqb _ _ (ok .claims g i j), tt)), tt),
-            ),
-          ),
-        ),
-      ),
-    )
+    pass-both (askNumbered 0 c) _ (numbered-pass 0 c (ok .numbered))
+    (pass-both (askNamed (length c) p) _ (each-pass _ 5 2 0 p (all-map p (λ l q. le-leb (l .group) (length c) q) (ok .named)))
+    (pass-both (groups (length c) (λ g. spreadChecks g (groupOf g p))) _ (groups-pass (length c) _ (λ g i j. spread-pass g (groupOf g p) (ok .spreads g i j)))
+    (pass-both (askLines h p) _ (lines-pass h p (ok .lines))
+    (pass-both (askPlaced p) _ (each-pass _ 15 2 0 p (all-map p (λ l q. both-not (isShort l) (eqb (l .group) 0) (λ t z. q t (eqb-true (l .group) 0 z))) (ok .placed)))
+    (groups-pass (length c) _ (λ g i j. (eq-eqb _ _ (ok .claims g i j), tt)))))))
 
 -- ---- the three tables
 

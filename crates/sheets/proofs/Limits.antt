@@ -2,6 +2,8 @@
 use mathlib.Core.Path.{_≡_, refl}
 use mathlib.Core.Bool.{Bool, true, false, cond}
 use mathlib.Core.List.{List, [], _∷_}
+use mathlib.Core.Logic.{⊎-elim}
+use Rattle.spreads.proofs.Signed.{minus-cases}
 use Prim.Native.Nat.{ℕ, zero, suc, _*_, _-_, _≤_, _<_}
 use native.Mathlib.Omega.{arith}
 use lib.Dec.{leb, ltb}
@@ -25,16 +27,8 @@ limit = 2560000000000000000
 
 -- ---- a signed difference is no further from 0 than its parts
 
-abs-sub : (a b m : ℕ) → a ≤ m → b ≤ m → natAbs (subℕ a b) ≤ m
-abs-sub a b m h k = go (ltb a b) refl
-  where
-    go : (t : Bool) → ltb a b ≡ t → natAbs (cond t (negsuc (b - suc a)) (pos (a - b))) ≤ m
-    go true e = omega (arith, ltb-true a b e)
-    go false e = omega (arith, ltb-false a b e)
-
 abs-minus : (a b m : ℕ) → a ≤ m → b ≤ m → natAbs (pos a -ℤ pos b) ≤ m
-abs-minus a zero m h k = omega arith
-abs-minus a (suc b) m h k = abs-sub a (suc b) m h k
+abs-minus a b m h k = ⊎-elim (λ c. rw (c .1) (omega arith)) (λ c. rw (c .1) (omega (arith, c .0))) (minus-cases a b)
 
 -- ---- a placement of at most 256 legs, each field in its range
 

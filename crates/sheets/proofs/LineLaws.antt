@@ -69,7 +69,7 @@ same? x y = (same-line x y, line-same x y)
 pub even-everywhere : (h p : List Leg) → All (λ x. contractsOf x h ≡ contractsOf x p) h → All (λ x. contractsOf x h ≡ contractsOf x p) p
     → (x : Leg) → contractsOf x h ≡ contractsOf x p
 unfolding contractsOf
-even-everywhere h p eh ep x = level-everywhere lineSide sameLineSide same? (λ l. l .contracts .0) (λ l. 0) (λ a b e. refl) h p eh ep x
+even-everywhere h p eh ep x = level-everywhere lineSide sameLineSide same? (λ l. l .contracts .0) h p eh ep x
 
 -- ---- what a contract of a leg is worth goes by its line and side
 

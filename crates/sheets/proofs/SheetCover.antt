@@ -1,7 +1,7 @@
 -- An accepted sheet's total covers the holdings at every price of each underlying, and each claim is the least that covers its group.
 use mathlib.Core.Path.{_≡_, refl}
 use mathlib.Core.Bool.{Bool, true, false}
-use mathlib.Core.List.{List, List·Memᴰ}
+use mathlib.Core.List.{List}
 use Prim.Native.Nat.{ℕ, _+_, _*_, _≤_, _<_}
 use native.Mathlib.Omega.{arith}
 use lib.Dec.{eqb}
@@ -11,11 +11,12 @@ use Rattle.records.specs.Lists.{only, sum, All}
 use Rattle.records.specs.Legs.{isLong, isShort}
 use Rattle.records.specs.declared.legs.Leg.{Leg}
 use Rattle.records.specs.declared.claims.Claim.{Claim}
-use Rattle.records.proofs.ListLaws.{all-map, sum-lin, sum-ext, sum-keep}
+use Rattle.records.proofs.ListLaws.{all-map, sum-bound, sum-ext, sum-keep}
 use Rattle.spreads.specs.Prices.{value, longAt, shortAt, at}
 use Rattle.spreads.specs.Strikes.{marginOf}
 use Rattle.spreads.specs.Spreads.{groupOf, Spread}
 use Rattle.spreads.proofs.Cover.{cover, least}
+use Rattle.sheets.specs.Demands.{Covers}
 use Rattle.sheets.specs.Sheets.{claimFor, totalOf, Accepted}
 use Rattle.sheets.proofs.LineLaws.{side-level}
 use Rattle.sheets.proofs.Groups.{by-group, total-le, total-claims}
@@ -40,9 +41,8 @@ spread-cover g legs s d price =
 
 module _ (h p : List Leg) (c : List Claim) (ok : Accepted h p c) where
   -- each claim covers its group
-  pub group-cover : (d : ℕ) (price : ℕ → ℕ) (g : ℕ) → 1 ≤ g → g ≤ length c
-      → shortAt d price (groupOf g p) ≤ longAt d price (groupOf g p) + d * claimFor c g
-  group-cover d price g a b = rw (ok .claims g a b) (spread-cover g (groupOf g p) (ok .spreads g a b) d price)
+  pub group-cover : (g : ℕ) → 1 ≤ g → g ≤ length c → Covers (claimFor c g) (groupOf g p)
+  group-cover g a b d one price = rw (ok .claims g a b) (spread-cover g (groupOf g p) (ok .spreads g a b) d price)
 
   -- 'An unplaced long is free', and there is no unplaced short
   unplaced : (d : ℕ) (price : ℕ → ℕ) → shortAt d price (groupOf 0 p) ≡ 0
@@ -51,14 +51,14 @@ module _ (h p : List Leg) (c : List Claim) (ok : Accepted h p c) where
       omega (
         arith,
         sum-keep (λ l. only (isShort l) (value d price l)) (λ l. eqb (l .group) 0) p,
-        sum-lin 1 0 0 (λ l. only (eqb (l .group) 0) (only (isShort l) (value d price l))) (λ l. 0) (λ l. 0) p
+        sum-bound (λ l. only (eqb (l .group) 0) (only (isShort l) (value d price l))) 0 p
             (all-map p (λ l k. omega (arith, never-both (eqb (l .group) 0) (isShort l) (value d price l) (λ a b. k b (eqb-true (l .group) 0 a)))) (ok .placed)),
       )
 
   -- the holdings lose no more than the total, at every price of each underlying
-  pub sheet-cover : (d : ℕ) (price : ℕ → ℕ) → shortAt d price h ≤ longAt d price h + d * totalOf c
+  pub sheet-cover : Covers (totalOf c) h
   unfolding longAt shortAt groupOf
-  sheet-cover d price =
+  sheet-cover d one price =
       rw (total-claims c)
       (omega (
         arith,
@@ -67,10 +67,11 @@ module _ (h p : List Leg) (c : List Claim) (ok : Accepted h p c) where
         by-group (λ l. only (isLong l) (value d price l)) (λ l. l .group) p (length c) (ok .named),
         by-group (λ l. only (isShort l) (value d price l)) (λ l. l .group) p (length c) (ok .named),
         unplaced d price,
-        total-le (length c) d (λ g. shortAt d price (groupOf g p)) (λ g. longAt d price (groupOf g p)) (claimFor c) (group-cover d price),
+        total-le (length c) d (λ g. shortAt d price (groupOf g p)) (λ g. longAt d price (groupOf g p)) (claimFor c) (λ g a b. group-cover g a b d one price),
       ))
 
   -- and no smaller margin covers any one of its groups
-  pub sheet-least : (g : ℕ) → 1 ≤ g → g ≤ length c → (m : ℕ) → m < claimFor c g
-      → (x : Leg) × List·Memᴰ x (groupOf g p) × (longAt 1 (at (x .strike)) (groupOf g p) + m < shortAt 1 (at (x .strike)) (groupOf g p))
-  sheet-least g a b m k = least (groupOf g p) m (omega (arith, ok .claims g a b))
+  pub group-least : (g : ℕ) → 1 ≤ g → g ≤ length c → (m : ℕ) → m < claimFor c g → ¬ Covers m (groupOf g p)
+  group-least g a b m k covers =
+      let x = least (groupOf g p) m (omega (arith, ok .claims g a b)) in
+      omega (arith, x .2, covers 1 (omega arith) (at (x .0 .strike)))

@@ -1,12 +1,12 @@
 -- The stages of the check of a sheet: what each asks of the next, and what the margins' call says of them.
 use Prim.Native.Nat.{ℕ, _+_, _-_, _/_, _≤_, _<_}
 use mathlib.Core.Path.{_≡_, refl, sym, ap, _∙_}
-use mathlib.Core.List.{List, _++_, append-nil}
+use mathlib.Core.List.{List}
 use native.Mathlib.Omega.{arith}
 use borrow.Author.Tests.{le-leb}
 use lib.IntN.{ℤ, pos}
 use lib.ListN.{length, getD, drop, List·getD-append}
-use Rattle.records.specs.Order.{firstOf, groups, inOrder, orElse}
+use Rattle.records.specs.Order.{firstOf, groups, orElse}
 use Rattle.records.specs.Tables.{fieldChecks, tableChecks, legsOf, claimsOf}
 use Rattle.records.specs.Written.{putAt}
 use Rattle.records.specs.declared.claims.Claim.{Claim}
@@ -24,8 +24,8 @@ use Rattle.spreads.specs.Strikes.{marginOf}
 use Rattle.spreads.specs.declared.calls.Listed.the-variants.{Entries, Refused}
 use Rattle.spreads.proofs.Answers.{margin-at, length-margins}
 use Rattle.sheets.proofs.Judged.{pass-tables, fields-pass}
-use Rattle.sheets.specs.Sheets.{askNumbered, askNamed, askLines, askPlaced, askClaim, ruleChecks}
-use Rattle.sheets.specs.Steps.{Tabled, askListed, listedChecks, groupsRule}
+use Rattle.sheets.specs.Sheets.{askClaim, lastChecks, groupsRule}
+use Rattle.sheets.specs.Steps.{Tabled, askListed, listedChecks}
 
 -- ---- what tables that passed 1 and 4 are
 
@@ -47,12 +47,6 @@ tabled-facts h p c t =
       placed = unclear _ (s .1 .whole, fields-pass Placement p (s .1 .fields));
       fields = unclear _ (fields-pass Claims c (s .2 .fields));
     }
-
--- ---- the stages one after the other
-
-pub rule-stages : (h p : List Leg) (c : List Claim) → firstOf (ruleChecks h p c) ≡ firstOf (askNumbered 0 c ++ (askNamed (length c) p ++ groupsRule h p c))
-unfolding ruleChecks inOrder groupsRule
-rule-stages h p c = simp append-nil
 
 -- ---- the margins' call over a placement that passed 1 and 4
 
@@ -87,7 +81,7 @@ listed-at legs d n k h =
     let l : k < length (marginsFrom legs 1 n) = omega (arith, length-margins legs 1 n) in
     List·getD-append (marginsFrom legs 1 n) (drop (0 + length (marginsFrom legs 1 n)) d) (pos 0) k l ∙ margin-at legs (pos 0) n k h
 
-pub listed-same : (h p : List Leg) (c : List Claim) (d : List ℤ) → listedChecks h p c (putAt d 0 (marginsFrom p 1 (length c))) ≡ askLines h p ++ (askPlaced p ++ groups (length c) (askClaim p c))
+pub listed-same : (h p : List Leg) (c : List Claim) (d : List ℤ) → listedChecks h p c (putAt d 0 (marginsFrom p 1 (length c))) ≡ lastChecks h p (length c) (askClaim p c)
 unfolding listedChecks askListed
 listed-same h p c d =
     let same = groups-same (length c) (askListed (putAt d 0 (marginsFrom p 1 (length c))) c) (askClaim p c)

@@ -6,7 +6,7 @@ use mathlib.Core.Bool.{true}
 use mathlib.Core.Logic.{_↔_}
 use mathlib.Core.List.{List}
 use Prim.Native.Nat.{ℕ, _+_, _*_, _≤_, _<_}
-use lib.IntN.{pos}
+use lib.IntN.{ℤ, pos}
 use lib.ListN.{length}
 use Rattle.records.specs.Chunks.{recordsOf}
 use Rattle.records.specs.Lists.{All}
@@ -39,8 +39,8 @@ pub record Kept (h p c : List ℕ) : Type 0 where
 
 -- 'every sheet that keeps the rules is accepted', and no other is; 'The answer is n and the total.'
 abbrev pub AcceptedJust : Type 0
-AcceptedJust = (h p c : List ℕ)
-    → (verdictOf h p c ≡ Accepted-verdict (length (claimsOf c)) (pos (totalOf (claimsOf c)))) ↔ Kept h p c
+AcceptedJust = (h p c : List ℕ) (n : ℕ) (total : ℤ)
+    → (verdictOf h p c ≡ Accepted-verdict n total) ↔ (Kept h p c × (n ≡ length (claimsOf c)) × (total ≡ pos (totalOf (claimsOf c))))
 
 -- 'an accepted sheet covers every price of each underlying, in any fraction of a mill'
 abbrev pub AcceptedCovers : Type 0

@@ -8,7 +8,7 @@ use lib.Dec.{leb, eqb}
 use lib.ListN.{length, getD}
 use Rattle.records.specs.Lists.{All, sum}
 use Rattle.records.specs.Legs.{isShort}
-use Rattle.records.specs.Order.{Check, ask, askEach, groups, inOrder}
+use Rattle.records.specs.Order.{Check, ask, askEach, groups}
 use Rattle.records.specs.Tables.{wholeTables, fieldsChecks, legsOf, claimsOf}
 use Rattle.records.specs.declared.legs.Leg.{Leg}
 use Rattle.records.specs.declared.claims.Claim.{Claim}
@@ -57,16 +57,17 @@ askPlaced p = askEach (λ l. not (isShort l && eqb (l .group) 0)) 15 2 0 p
 abbrev pub askClaim : List Leg → List Claim → ℕ → List Check
 askClaim p c g = ask (eqb (claimFor c g) (marginOf (groupOf g p))) 16 3 g ∷ []
 
+-- 14, 15, then 16 as it is asked of each of n groups
+abbrev pub lastChecks : List Leg → List Leg → ℕ → (ℕ → List Check) → List Check
+lastChecks h p n askEachClaim = askLines h p ++ (askPlaced p ++ groups n askEachClaim)
+
+-- 'then groups ascending, 6 to 13 in number order within each; then 14, 15, 16'
+unfoldable pub groupsRule : List Leg → List Leg → List Claim → List Check
+groupsRule h p c = groups (length c) (λ g. spreadChecks g (groupOf g p)) ++ lastChecks h p (length c) (askClaim p c)
+
+-- '5, claims first'
 unfoldable pub ruleChecks : List Leg → List Leg → List Claim → List Check
-ruleChecks h p c =
-    inOrder
-    (askNumbered 0 c
-    ∷ askNamed (length c) p
-    ∷ groups (length c) (λ g. spreadChecks g (groupOf g p))
-    ∷ askLines h p
-    ∷ askPlaced p
-    ∷ groups (length c) (askClaim p c)
-    ∷ [])
+ruleChecks h p c = askNumbered 0 c ++ (askNamed (length c) p ++ groupsRule h p c)
 
 -- 1, 'table not whole records or over its limit', then 4
 unfoldable pub tablesChecks : List ℕ → List ℕ → List ℕ → List Check

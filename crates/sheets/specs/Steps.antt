@@ -1,18 +1,17 @@
 -- What the stages of the check compute, for the contracts of functions that are not public.
 use mathlib.Core.Path.{_≡_}
-use mathlib.Core.List.{List, [], _∷_, _++_}
+use mathlib.Core.List.{List, [], _∷_}
 use Prim.Native.Nat.{ℕ, _-_}
 use lib.Dec.{eqb}
 use lib.IntN.{ℤ, pos}
 use lib.ListN.{length, getD}
 use mir.Syntax.{w64}
 use mir.Val.{ofZ}
-use Rattle.records.specs.Order.{Check, ask, firstOf, groups}
+use Rattle.records.specs.Order.{Check, ask, firstOf}
 use Rattle.records.specs.declared.claims.Claim.{Claim}
 use Rattle.records.specs.declared.legs.Leg.{Leg}
 use Rattle.records.specs.declared.refusals.Fault.the-variants.{Nothing}
-use Rattle.spreads.specs.Spreads.{groupOf, spreadChecks}
-use Rattle.sheets.specs.Sheets.{claimFor, askLines, askPlaced, askClaim, tablesChecks}
+use Rattle.sheets.specs.Sheets.{claimFor, lastChecks, tablesChecks}
 
 -- three tables that have passed 1 and 4
 pub record Tabled (h p c : List ℕ) : Type 0 where
@@ -29,9 +28,4 @@ askListed margins c g = ask (eqb (claimFor c g) (bits (getD margins (g - 1) (pos
 
 -- 14 and 15, and 16 against a list of margins
 unfoldable pub listedChecks : List Leg → List Leg → List Claim → List ℤ → List Check
-listedChecks h p c margins = askLines h p ++ (askPlaced p ++ groups (length c) (askListed margins c))
-
--- 6 to 16
-unfoldable pub groupsRule : List Leg → List Leg → List Claim → List Check
-groupsRule h p c =
-    groups (length c) (λ g. spreadChecks g (groupOf g p)) ++ (askLines h p ++ (askPlaced p ++ groups (length c) (askClaim p c)))
+listedChecks h p c margins = lastChecks h p (length c) (askListed margins c)

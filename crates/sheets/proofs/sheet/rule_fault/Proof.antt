@@ -1,4 +1,4 @@
-use Rattle.sheets.proofs.StageLaws.{rule-stages}
+use Rattle.sheets.specs.Sheets.{ruleChecks}
 use Rattle.records.proofs.TableLaws.{length-claims}
 use Rattle.records.proofs.OrderLaws.{first-append}
 use mathlib.Core.Path.{sym, _∙_}
@@ -7,13 +7,16 @@ use Rattle.sheets.proofs.sheet.rule_fault.Statement.{statement}
 use Rattle.sheets.proofs.sheet.rule_fault.Tie as tie
 
 returns : tie.Need-returns
-returns c = rw (rule-stages, first-append, sym (c .before .before .before .numbered-fault .ensures) ∙ c .before .refusal .given .1)
+unfolding ruleChecks
+returns c = rw (first-append, sym (c .before .before .before .numbered-fault .ensures) ∙ c .before .refusal .given .1)
 
 returns-2 : tie.Need-returns-2
-returns-2 c = rw (rule-stages, first-append, sym (c .before .before .before .before .before .before .numbered-fault .ensures) ∙ c .before .before .before .before .enum-told .given .1, first-append, length-claims, sym (c .before .before .before .named-fault .ensures) ∙ c .before .refusal2 .given .1)
+unfolding ruleChecks
+returns-2 c = rw (first-append, sym (c .before .before .before .before .before .before .numbered-fault .ensures) ∙ c .before .before .before .before .enum-told .given .1, first-append, length-claims, sym (c .before .before .before .named-fault .ensures) ∙ c .before .refusal2 .given .1)
 
 returns-3 : tie.Need-returns-3
-returns-3 c = rw (rule-stages, first-append, sym (c .before .before .before .before .before .before .numbered-fault .ensures) ∙ c .before .before .before .before .enum-told .given .1, first-append, length-claims, sym (c .before .before .before .named-fault .ensures) ∙ c .before .enum-told2 .given .1) (c .groups-fault .ensures)
+unfolding ruleChecks
+returns-3 c = rw (first-append, sym (c .before .before .before .before .before .before .numbered-fault .ensures) ∙ c .before .before .before .before .enum-told .given .1, first-append, length-claims, sym (c .before .before .before .named-fault .ensures) ∙ c .before .enum-told2 .given .1) (c .groups-fault .ensures)
 
 pub rule-fault-spec : {M : Type 1} → statement M
 rule-fault-spec =
