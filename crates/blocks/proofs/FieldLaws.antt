@@ -5,14 +5,14 @@ use Prim.Native.Nat.{ℕ, _+_, _*_, _/_, _<_}
 use native.Mathlib.Omega.{arith}
 use lib.ListN.{length, length-append}
 use Rattle.records.specs.Chunks.{recordsOf}
-use Rattle.records.specs.Order.{firstOf, askEach, orElse}
+use Rattle.records.specs.Order.{firstOf, askEach}
 use Rattle.records.specs.Tables.{goodRecord, tableNumber, fieldChecks}
 use Rattle.records.specs.declared.refusals.Fault.{Fault}
 use Rattle.records.specs.declared.refusals.Fault.the-variants.{Is}
 use Rattle.records.specs.declared.refusals.Refusal.{Refusal}
 use Rattle.records.specs.declared.tables.Kind.{Kind}
 use Rattle.records.proofs.ChunkLaws.{length-chunks}
-use Rattle.records.proofs.OrderLaws.{first-append, moved, ask-append, ask-moved, ask-place}
+use Rattle.records.proofs.OrderLaws.{orElse, first-append, moved, ask-append, ask-moved, ask-place}
 use Rattle.blocks.specs.File.{countAs, recordsAs, joined}
 use Rattle.blocks.specs.Steps.{Sized}
 use Rattle.blocks.proofs.FileLaws.{length-recordsAs, joined-step}

@@ -6,12 +6,12 @@ use Prim.Native.Nat.{ℕ, _*_, _/_, _≤_, _<_}
 use native.Mathlib.Omega.{arith}
 use lib.ListN.{length}
 use borrow.Author.Tests.{le-leb, lt-leb}
-use Rattle.records.specs.Order.{refuse, firstOf, orElse}
+use Rattle.records.specs.Order.{refuse, firstOf}
 use Rattle.records.specs.declared.refusals.Refusal.{Refusal}
 use Rattle.records.specs.declared.refusals.Fault.{Fault}
 use Rattle.records.specs.declared.refusals.Fault.the-variants.{Nothing, Is}
 use Rattle.records.specs.declared.tables.Kind.the-variants.{Holdings, Placement, Claims}
-use Rattle.records.proofs.OrderLaws.{first-append}
+use Rattle.records.proofs.OrderLaws.{orElse, first-append}
 use Rattle.blocks.specs.File.{wholeFile, blocksOf, tablesIn, blocksChecks, fileChecks, recordChecks}
 use Rattle.blocks.specs.Reader.{reading, countsOf, readChecks, readRoom, readOf}
 use Rattle.blocks.specs.Steps.{scanOf, judged}

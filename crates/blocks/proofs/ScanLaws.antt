@@ -10,13 +10,13 @@ use borrow.Author.Tests.{leb-true, ne-eqb}
 use Rattle.records.specs.Bytes.{leAt}
 use Rattle.records.specs.Chunks.{chunkAt}
 use Rattle.records.specs.Lists.{sum}
-use Rattle.records.specs.Order.{ask, refuse, firstOf, orElse}
+use Rattle.records.specs.Order.{ask, refuse, firstOf}
 use Rattle.records.specs.declared.refusals.Fault.{Fault}
 use Rattle.records.specs.declared.refusals.Fault.the-variants.{Nothing, Is}
 use Rattle.records.specs.declared.tables.Kind.{Kind}
 use Rattle.records.specs.declared.tables.Kind.the-variants.{Holdings, Placement, Claims}
 use Rattle.records.proofs.ListLaws.{only-le}
-use Rattle.records.proofs.OrderLaws.{first-append}
+use Rattle.records.proofs.OrderLaws.{orElse, first-append}
 use Rattle.blocks.specs.Block.{kindOf, countOf, sumsAgree, formed}
 use Rattle.blocks.specs.File.{blocksOf, countAs, recordsAs, joined, tablesIn, prevOf, mayFollow, follows, withinLimits, blockChecks, blocksChecks}
 use Rattle.blocks.specs.Steps.{nothingYet, soFar, grown, smallEnough, Small, Sized, blockFault, scanOf}

@@ -18,7 +18,7 @@ use records::Kind;
 use records::RECORD_BYTES;
 use records::Refusal;
 use records::table_number;
-use records::whole_table;
+use records::whole_tables;
 
 // What is known of the blocks so far: the last one's kind and count, and the records of each kind.
 pub(crate) struct SoFar {
@@ -82,9 +82,11 @@ impl SoFar {
         requires { ⌜ (self .holdings ≤ 300) × (self .placement ≤ 300) × (self .claims ≤ 300) ⌝ }
         ensures { λ r. ⌜ r ≡ smallEnough self ⌝ }
     {
-        whole_table(Kind::Holdings, RECORD_BYTES * self.holdings)
-            & whole_table(Kind::Placement, RECORD_BYTES * self.placement)
-            & whole_table(Kind::Claims, RECORD_BYTES * self.claims)
+        whole_tables(
+            RECORD_BYTES * self.holdings,
+            RECORD_BYTES * self.placement,
+            RECORD_BYTES * self.claims,
+        )
     }
 }
 

@@ -12,10 +12,9 @@ use crate::filler::fill_block;
 use crate::form::BLOCK_BYTES;
 use crate::form::FULL_BYTES;
 use records::Fault;
-use records::Kind;
 use records::Refusal;
 use records::fields_fault;
-use records::whole_table;
+use records::whole_tables;
 
 // The file's length in bytes, or why nothing is written.
 pub enum Writing {
@@ -97,9 +96,7 @@ fn put_file(holdings: &[u8], placement: &[u8], claims: &[u8], out: &mut [u8]) ->
 fn tables_taken(holdings: usize, placement: usize, claims: usize) -> bool
     ensures { λ r. ⌜ r ≡ takenTables holdings placement claims ⌝ }
 {
-    whole_table(Kind::Holdings, holdings)
-        & whole_table(Kind::Placement, placement)
-        & whole_table(Kind::Claims, claims)
+    whole_tables(holdings, placement, claims)
         & !((holdings == 0) & (placement == 0) & (claims == 0))
 }
 

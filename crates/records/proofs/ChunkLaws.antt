@@ -1,17 +1,12 @@
 -- A list in parts: the laws of a loop that begins with all of them, takes part i off at each turn, and ends with none.
 use Prim.Native.Nat.{ℕ, zero, suc, _+_, _-_, _*_, _/_, _≤_, _<_}
 use mathlib.Core.Path.{_≡_, refl, ap}
-use mathlib.Core.List.{List, [], _∷_, _++_}
-use lib.ListN.{length, getD, take, drop}
+use mathlib.Core.List.{List, [], _∷_, _++_, map}
+use lib.ListN.{length, getD, take, drop, length-map, length-take, length-drop}
 use lib.Seq.{drop-drop}
 use native.Mathlib.Nat.{mul-add, mul-one, mul-zero, sub-zero, add-sub-cancel-left, not-suc-le-zero, le-of-suc-le-suc, mul-suc, add-comm, suc-add}
 use native.Mathlib.Omega.{arith}
-use Rattle.records.specs.Chunks.{chunks, chunkAt, chunksFrom}
-use Rattle.records.specs.Legs.{legOf}
-use Rattle.records.specs.Claims.{claimOf}
-use Rattle.records.specs.Tables.{legsOf, legsFrom, claimsOf, claimsFrom}
-use Rattle.records.specs.declared.legs.Leg.{Leg}
-use Rattle.records.specs.declared.claims.Claim.{Claim}
+use Rattle.records.specs.Chunks.{chunks, chunkAt, chunksFrom, recordsOf}
 
 pub chunks-all : (size n : ℕ) (xs : List ℕ) → chunksFrom size n 0 xs ≡ chunks size n xs
 unfolding chunksFrom
@@ -51,39 +46,32 @@ getD-chunks size (suc n) zero xs h = simp mul-zero
 getD-chunks size (suc n) (suc i) xs h =
     simp (getD-chunks size n i (drop size xs) (le-of-suc-le-suc h), drop-drop, mul-suc, add-comm)
 
--- ---- a table as a list of legs, of claims
+-- ---- a table's records, each read as a leg, say, or as a claim
 
-module _ (xs : List ℕ) where
-  pub legs-all : legsFrom xs 0 ≡ legsOf xs
-  unfolding legsOf legsFrom
-  legs-all = rw (chunks-all 32 (length xs / 32) xs)
+module _ (xs : List ℕ) (i : ℕ) where
+  -- a record has 32 bytes, and past the last there are fewer
+  pub record-whole : i < length xs / 32 → 32 ≤ length (chunkAt 32 xs i)
+  record-whole h = simp (length-take, length-drop) (omega arith)
 
-  pub legs-step : (i : ℕ) → i < length xs / 32 → legsFrom xs i ≡ legOf (chunkAt 32 xs i) ∷ legsFrom xs (i + 1)
-  unfolding legsFrom
-  legs-step i h = rw (chunks-step 32 (length xs / 32) i xs h)
+  pub record-past : length xs / 32 ≤ i → length (chunkAt 32 xs i) < 32
+  record-past h = simp (length-take, length-drop) (omega arith)
 
-  pub legs-none : (i : ℕ) → length xs / 32 ≤ i → legsFrom xs i ≡ []
-  unfolding legsFrom
-  legs-none i h = rw (chunks-none 32 (length xs / 32) i xs h)
+module _ {A : Type 0} (read : List ℕ → A) (xs : List ℕ) where
+  -- those from record i on
+  unfoldable pub rowsFrom : ℕ → List A
+  rowsFrom i = map read (chunksFrom 32 (length xs / 32) i xs)
 
-  pub claims-all : claimsFrom xs 0 ≡ claimsOf xs
-  unfolding claimsOf claimsFrom
-  claims-all = rw (chunks-all 32 (length xs / 32) xs)
+  pub rows-all : rowsFrom 0 ≡ map read (recordsOf xs)
+  unfolding rowsFrom
+  rows-all = rw (chunks-all 32 (length xs / 32) xs)
 
-  pub claims-step : (i : ℕ) → i < length xs / 32 → claimsFrom xs i ≡ claimOf (chunkAt 32 xs i) ∷ claimsFrom xs (i + 1)
-  unfolding claimsFrom
-  claims-step i h = rw (chunks-step 32 (length xs / 32) i xs h)
+  pub rows-next : (i : ℕ) (x : A) → i < length xs / 32 → x ≡ read (chunkAt 32 xs i) → rowsFrom i ≡ x ∷ rowsFrom (i + 1)
+  unfolding rowsFrom
+  rows-next i x h e = rw (e, chunks-step 32 (length xs / 32) i xs h)
 
-  pub claims-none : (i : ℕ) → length xs / 32 ≤ i → claimsFrom xs i ≡ []
-  unfolding claimsFrom
-  claims-none i h = rw (chunks-none 32 (length xs / 32) i xs h)
+  pub rows-none : (i : ℕ) → length xs / 32 ≤ i → rowsFrom i ≡ []
+  unfolding rowsFrom
+  rows-none i h = rw (chunks-none 32 (length xs / 32) i xs h)
 
-  -- record i as code reads it, from 32 * i to 32 * i + 32, and those after it
-  abbrev partAt : ℕ → List ℕ
-  partAt i = take (32 * i + 32 - 32 * i) (drop (32 * i) xs)
-
-  pub leg-next : (i : ℕ) (l : Leg) → i < length xs / 32 → l ≡ legOf (partAt i) → legsFrom xs i ≡ l ∷ legsFrom xs (i + 1)
-  leg-next i l h e = rw (e, part-is 32 i xs) (legs-step i h)
-
-  pub claim-next : (i : ℕ) (k : Claim) → i < length xs / 32 → k ≡ claimOf (partAt i) → claimsFrom xs i ≡ k ∷ claimsFrom xs (i + 1)
-  claim-next i k h e = rw (e, part-is 32 i xs) (claims-step i h)
+  pub length-rows : length (map read (recordsOf xs)) ≡ length xs / 32
+  length-rows = simp (length-map, length-chunks)

@@ -1,6 +1,6 @@
 -- Checks in their order: a search that goes on, ends or is over; nothing is refused just where every check holds.
 use Prim.Native.Nat.{ℕ, zero, suc, _+_, _≤_, _<_}
-use mathlib.Core.Path.{_≡_, refl, ap, _∙_}
+use mathlib.Core.Path.{_≡_, refl, sym, ap, _∙_}
 use mathlib.Core.Bool.{Bool, true, false, cond}
 use mathlib.Core.List.{List, [], _∷_, _++_}
 use native.Mathlib.Decide.{ℕ-discrete}
@@ -8,7 +8,7 @@ use native.Mathlib.Numerals.{add-one}
 use native.Mathlib.Omega.{arith}
 use lib.ListN.{length}
 use Rattle.records.specs.Lists.{All}
-use Rattle.records.specs.Order.{Check, refuse, firstOf, askEach, groups, inOrder, orElse}
+use Rattle.records.specs.Order.{Check, refuse, firstOf, askEach, groups}
 use Rattle.records.specs.declared.refusals.Refusal.{Refusal}
 use Rattle.records.specs.declared.refusals.Fault.{Fault}
 use Rattle.records.specs.declared.refusals.Fault.the-variants.{Nothing, Is}
@@ -30,6 +30,18 @@ module _ {A : Type 0} (good : A → Bool) (number table i : ℕ) where
   pub ask-none : (l : List A) → l ≡ [] → firstOf (askEach good number table i l) ≡ Nothing
   unfolding firstOf askEach
   ask-none l e = rw e
+
+-- the same within a loop, that knows by `so-far` what is left to be asked
+module _ {A : Type 0} (good : A → Bool) (number table i : ℕ) (l : List A) (all : Fault) (so-far : all ≡ firstOf (askEach good number table i l)) where
+  pub search-over : l ≡ [] → Nothing ≡ all
+  search-over e = sym (so-far ∙ ask-none good number table i l e)
+
+  module _ (x : A) (ls : List A) (e : l ≡ x ∷ ls) where
+    pub search-good : good x ≡ true → all ≡ firstOf (askEach good number table (i + 1) ls)
+    search-good g = so-far ∙ ask-good good number table i x l ls e g
+
+    pub search-bad : good x ≡ false → Is (refuse number table i) ≡ all
+    search-bad b = sym (so-far ∙ ask-bad good number table i x l ls e b)
 
 -- ---- a list asked part by part
 
@@ -65,6 +77,11 @@ module _ {A : Type 0} (good : A → Bool) (number table : ℕ) where
           → (firstOf (askEach good number table (i + 1) l) ≡ Is r → r .place < i + 1 + length l) → r .place < i + suc (length l)
       go true q f = omega (arith, f q)
       go false q f = let z : r .place ≡ i = cc in omega arith
+
+-- the first fault, or what comes otherwise
+abbrev pub orElse : Fault → Fault → Fault
+orElse Nothing otherwise = otherwise
+orElse (Is r) otherwise = Is r
 
 -- one list of checks after the other: the first fault of the first, else that of the second
 pub first-append : (a b : List Check) → firstOf (a ++ b) ≡ orElse (firstOf a) (firstOf b)
@@ -165,13 +182,3 @@ unfolding groups
 groups-pass zero F h = tt
 groups-pass (suc n) F h =
     pass-both (groups n F) (F (suc n)) (groups-pass n F (λ g a b. h g a (omega arith))) (h (suc n) (omega arith) (omega arith))
-
-pub pass-order : (css : List (List Check)) → Pass (inOrder css) → All Pass css
-unfolding inOrder
-pass-order [] p = tt
-pass-order (cs ∷ css) p = (pass-left cs (inOrder css) p, pass-order css (pass-right cs (inOrder css) p))
-
-pub order-pass : (css : List (List Check)) → All Pass css → Pass (inOrder css)
-unfolding inOrder
-order-pass [] p = tt
-order-pass (cs ∷ css) p = pass-both cs (inOrder css) (p .0) (order-pass css (p .1))

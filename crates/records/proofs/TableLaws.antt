@@ -1,8 +1,8 @@
 -- A table that passed its check: how long it is, and the bounds of each field of each leg and claim.
-use Prim.Native.Nat.{ℕ, _/_, _%_, _≤_}
+use Prim.Native.Nat.{ℕ, _/_, _%_, _≤_, _<_}
 use mathlib.Core.Path.{_≡_}
 use mathlib.Core.Bool.{true, _&&_, and-eq-true-iff}
-use mathlib.Core.List.{List}
+use mathlib.Core.List.{List, []}
 use lib.Dec.{eqb, leb}
 use lib.ListN.{length}
 use borrow.Author.Tests.{eqb-true, leb-true}
@@ -10,10 +10,10 @@ use native.Mathlib.Nat.{mul-le-mul}
 use native.Mathlib.Omega.{arith}
 use Rattle.records.specs.Lists.{All}
 use Rattle.records.specs.Bytes.{leAt}
-use Rattle.records.specs.Chunks.{recordsOf}
+use Rattle.records.specs.Chunks.{chunkAt, recordsOf}
 use Rattle.records.specs.Dates.{within, realDate}
 use Rattle.records.specs.Legs.{legOf, inRange, goodLeg, units}
-use Rattle.records.specs.Claims.{claimOf, goodClaim}
+use Rattle.records.specs.Claims.{mostMills, claimOf, goodClaim}
 use Rattle.records.specs.Order.{firstOf}
 use Rattle.records.specs.Tables.{goodRecord, limitOf, tableNumber, wholeTable, fieldChecks, legsOf, claimsOf}
 use Rattle.records.specs.declared.legs.Leg.{Leg}
@@ -21,8 +21,8 @@ use Rattle.records.specs.declared.claims.Claim.{Claim}
 use Rattle.records.specs.declared.refusals.Fault.the-variants.{Nothing}
 use Rattle.records.specs.declared.tables.Kind.{Kind}
 use Rattle.records.specs.declared.tables.Kind.the-variants.{Placement}
-use Rattle.records.proofs.ListLaws.{map-all}
-use Rattle.records.proofs.ChunkLaws.{length-chunks}
+use Rattle.records.proofs.ListLaws.{map-all, all-at}
+use Rattle.records.proofs.ChunkLaws.{length-chunks, getD-chunks, length-rows}
 use Rattle.records.proofs.OrderLaws.{clear, pass-each}
 
 -- ---- one record
@@ -87,7 +87,7 @@ units-small top l r =
 
 pub record ClaimRanges (c : Claim) : Type 0 where
   pub group : (1 ≤ c .group) × (c .group ≤ 32)
-  pub margin : c .margin ≤ 2560000000000000000
+  pub margin : c .margin ≤ mostMills
 
 pub claim-ranges : (xs : List ℕ) → goodClaim xs ≡ true → ClaimRanges (claimOf xs)
 unfolding goodClaim
@@ -100,18 +100,18 @@ claim-ranges xs e =
     let p1 = and-eq-true-iff _ _ .0 (p2 .0) in
     record {
       group = within-true 1 32 (claimOf xs .group) (p1 .0);
-      margin = leb-true (claimOf xs .margin) 2560000000000000000 (p3 .1);
+      margin = leb-true (claimOf xs .margin) mostMills (p3 .1);
     }
 
 -- ---- a whole table
 
 pub length-legs : (xs : List ℕ) → length (legsOf xs) ≡ length xs / 32
 unfolding legsOf
-length-legs xs = simp (lib.ListN.length-map, length-chunks)
+length-legs xs = length-rows legOf xs
 
 pub length-claims : (xs : List ℕ) → length (claimsOf xs) ≡ length xs / 32
 unfolding claimsOf
-length-claims xs = simp (lib.ListN.length-map, length-chunks)
+length-claims xs = length-rows claimOf xs
 
 pub whole : (kind : Kind) (bytes : ℕ) → wholeTable kind bytes ≡ true → (bytes % 32 ≡ 0) × (bytes / 32 ≤ limitOf kind)
 whole kind bytes e =
@@ -121,6 +121,11 @@ whole kind bytes e =
 pub fields-good : (kind : Kind) (xs : List ℕ) → firstOf (fieldChecks kind xs) ≡ Nothing → All (λ r. goodRecord kind r ≡ true) (recordsOf xs)
 unfolding fieldChecks
 fields-good kind xs e = pass-each (goodRecord kind) 4 (tableNumber kind) 0 (recordsOf xs) (clear _ e)
+
+-- record i of such a table
+pub record-good : (kind : Kind) (xs : List ℕ) (i : ℕ) → firstOf (fieldChecks kind xs) ≡ Nothing → i < length xs / 32 → goodRecord kind (chunkAt 32 xs i) ≡ true
+record-good kind xs i e h =
+    rw (getD-chunks 32 (length xs / 32) i xs h) at (all-at (λ r. goodRecord kind r ≡ true) (recordsOf xs) i [] (fields-good kind xs e) (rw (length-chunks 32 (length xs / 32) xs) h))
 
 -- the bounds of every leg of a placement whose fields are in range
 pub placement-ranges : (xs : List ℕ) → firstOf (fieldChecks Placement xs) ≡ Nothing → All (Ranges 32) (legsOf xs)

@@ -4,10 +4,11 @@ use mathlib.Core.Bool.{Bool}
 use mathlib.Core.List.{List}
 use Prim.Native.Nat.{ℕ}
 use Rattle.records.specs.Bytes.{leAt}
+use Rattle.records.specs.Chunks.{chunkAt}
 use Rattle.records.specs.Legs.{legOf, unitsOf, plusUnits}
 use Rattle.records.specs.Claims.{claimOf}
 use Rattle.records.specs.Order.{firstOf}
-use Rattle.records.specs.Tables.{goodRecord, wholeTable, fieldChecks, fieldsChecks, countedOf}
+use Rattle.records.specs.Tables.{tableNumber, wholeTables, fieldChecks, fieldsChecks, countedOf}
 use Rattle.records.specs.declared.counts.Contracts.{Contracts}
 use Rattle.records.specs.declared.counts.Units.{Units}
 use Rattle.records.specs.declared.legs.Leg.{Leg}
@@ -23,11 +24,11 @@ one-outcome p q = p ∙ sym q
 u16-at-unique : (part : List ℕ) (at r s : ℕ) → r ≡ leAt part at 2 → s ≡ leAt part at 2 → r ≡ s
 u16-at-unique part at r s = one-outcome
 
-leg-of-unique : (part : List ℕ) (r s : Leg) → r ≡ legOf part → s ≡ legOf part → r ≡ s
-leg-of-unique part r s = one-outcome
+leg-at-unique : (table : List ℕ) (i : ℕ) (r s : Leg) → r ≡ legOf (chunkAt 32 table i) → s ≡ legOf (chunkAt 32 table i) → r ≡ s
+leg-at-unique table i r s = one-outcome
 
-claim-of-unique : (part : List ℕ) (r s : Claim) → r ≡ claimOf part → s ≡ claimOf part → r ≡ s
-claim-of-unique part r s = one-outcome
+claim-at-unique : (table : List ℕ) (i : ℕ) (r s : Claim) → r ≡ claimOf (chunkAt 32 table i) → s ≡ claimOf (chunkAt 32 table i) → r ≡ s
+claim-at-unique table i r s = one-outcome
 
 units-unique : (c : Contracts) (size : ℕ) (r s : Units) → r ≡ unitsOf c size → s ≡ unitsOf c size → r ≡ s
 units-unique c size r s = one-outcome
@@ -35,11 +36,11 @@ units-unique c size r s = one-outcome
 plus-unique : (a b r s : Units) → r ≡ plusUnits a b → s ≡ plusUnits a b → r ≡ s
 plus-unique a b r s = one-outcome
 
-good-record-unique : (kind : Kind) (part : List ℕ) (r s : Bool) → r ≡ goodRecord kind part → s ≡ goodRecord kind part → r ≡ s
-good-record-unique kind part r s = one-outcome
+table-number-unique : (kind : Kind) (r s : ℕ) → r ≡ tableNumber kind → s ≡ tableNumber kind → r ≡ s
+table-number-unique kind r s = one-outcome
 
-whole-table-unique : (kind : Kind) (bytes : ℕ) (r s : Bool) → r ≡ wholeTable kind bytes → s ≡ wholeTable kind bytes → r ≡ s
-whole-table-unique kind bytes r s = one-outcome
+whole-tables-unique : (h p c : ℕ) (r s : Bool) → r ≡ wholeTables h p c → s ≡ wholeTables h p c → r ≡ s
+whole-tables-unique h p c r s = one-outcome
 
 field-fault-unique : (kind : Kind) (table : List ℕ) (r s : Fault)
     → r ≡ firstOf (fieldChecks kind table) → s ≡ firstOf (fieldChecks kind table) → r ≡ s

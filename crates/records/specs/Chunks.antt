@@ -19,6 +19,3 @@ chunksFrom size n i xs = chunks size (n - i) (drop (size * i) xs)
 -- 'Each record is looked at where it stands in the table, as a 32-byte part': the records of a table
 abbrev pub recordsOf : List ℕ → List (List ℕ)
 recordsOf xs = chunks 32 (length xs / 32) xs
-
-abbrev pub recordsFrom : List ℕ → ℕ → List (List ℕ)
-recordsFrom xs i = chunksFrom 32 (length xs / 32) i xs

@@ -8,10 +8,21 @@ use Rattle.records.specs.Bytes.{leAt}
 use Rattle.records.specs.Dates.{within}
 use Rattle.records.specs.declared.claims.Claim.{Claim}
 
--- the fields of a part of 32 bytes; a shorter one has none
+-- '0 to 2,560,000,000,000,000,000'
+abbrev pub mostMills : ℕ
+mostMills = 2560000000000000000
+
+-- where each field stands
+unfoldable pub claimFields : List ℕ → Claim
+claimFields xs = record { group = leAt xs 0 2; margin = leAt xs 8 8 }
+
+-- no field at all
+abbrev pub blankClaim : Claim
+blankClaim = record { group = 0; margin = 0 }
+
+-- the fields of a part of at least 32 bytes; a shorter one has none
 unfoldable pub claimOf : List ℕ → Claim
-claimOf xs =
-    cond (leb 32 (length xs)) (record { group = leAt xs 0 2; margin = leAt xs 8 8 }) (record { group = 0; margin = 0 })
+claimOf xs = cond (leb 32 (length xs)) (claimFields xs) blankClaim
 
 unfoldable pub goodClaim : List ℕ → Bool
 goodClaim xs =
@@ -19,6 +30,6 @@ goodClaim xs =
     && (within 1 32 (claimOf xs .group)
     && eqb (leAt xs 2 2) 0
     && eqb (leAt xs 4 4) 0
-    && leb (claimOf xs .margin) 2560000000000000000
+    && leb (claimOf xs .margin) mostMills
     && eqb (leAt xs 16 8) 0
     && eqb (leAt xs 24 8) 0)

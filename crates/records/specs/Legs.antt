@@ -14,8 +14,8 @@ abbrev pub contractsFrom : ℕ → Contracts
 contractsFrom n = record { 0 = n }
 
 -- where each field stands
-unfoldable pub fieldsOf : List ℕ → Leg
-fieldsOf xs =
+unfoldable pub legFields : List ℕ → Leg
+legFields xs =
     record {
       group = leAt xs 0 2;
       side = leAt xs 2 1;
@@ -45,9 +45,9 @@ blankLeg =
       contracts = contractsFrom 0;
     }
 
--- the fields of a part of 32 bytes; a shorter one has none
+-- the fields of a part of at least 32 bytes; a shorter one has none
 unfoldable pub legOf : List ℕ → Leg
-legOf xs = cond (leb 32 (length xs)) (fieldsOf xs) blankLeg
+legOf xs = cond (leb 32 (length xs)) (legFields xs) blankLeg
 
 -- each field's range; the group is at most `top`
 unfoldable pub inRange : ℕ → Leg → Bool
@@ -88,7 +88,7 @@ abbrev pub unitsOf : Contracts → ℕ → Units
 unitsOf c size = record { 0 = c .0 * size }
 
 abbrev pub units : Leg → ℕ
-units l = l .contracts .0 * l .size
+units l = unitsOf (l .contracts) (l .size) .0
 
 abbrev pub noUnits : Units
 noUnits = record { 0 = 0 }

@@ -1,7 +1,7 @@
 -- Sums, greatest and least values and choices over a list, and what holds of every element.
 use mathlib.Core.Bool.{Bool, true, false, cond, _&&_}
 use mathlib.Core.List.{List, [], _∷_}
-use Prim.Native.Nat.{ℕ, zero, suc, _+_, min, max}
+use Prim.Native.Nat.{ℕ, _+_, min, max}
 
 -- x where the test passes, and otherwise nothing
 abbrev pub only : Bool → ℕ → ℕ
@@ -38,8 +38,3 @@ module _ {A : Type 0} where
   abbrev pub All : (A → Type 0) → List A → Type 0
   All P [] = Unit {0}
   All P (x ∷ xs) = P x × All P xs
-
--- F 1 + .. + F n
-unfoldable pub total : ℕ → (ℕ → ℕ) → ℕ
-total zero F = 0
-total (suc n) F = total n F + F (suc n)

@@ -33,13 +33,3 @@ module _ {A : Type 0} where
 unfoldable pub groups : ℕ → (ℕ → List Check) → List Check
 groups zero F = []
 groups (suc n) F = groups n F ++ F (suc n)
-
--- one list of checks after the other
-unfoldable pub inOrder : List (List Check) → List Check
-inOrder [] = []
-inOrder (cs ∷ css) = cs ++ inOrder css
-
--- the first fault, or what comes otherwise
-abbrev pub orElse : Fault → Fault → Fault
-orElse Nothing otherwise = otherwise
-orElse (Is r) otherwise = Is r

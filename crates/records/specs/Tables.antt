@@ -4,7 +4,7 @@ use mathlib.Core.Bool.{Bool, _&&_}
 use mathlib.Core.List.{List, _∷_, _++_, map}
 use lib.Dec.{eqb, leb}
 use lib.ListN.{length}
-use Rattle.records.specs.Chunks.{recordsOf, recordsFrom}
+use Rattle.records.specs.Chunks.{recordsOf}
 use Rattle.records.specs.Legs.{legOf, goodLeg}
 use Rattle.records.specs.Claims.{claimOf, goodClaim}
 use Rattle.records.specs.Order.{Check, ask, askEach, firstOf}
@@ -71,12 +71,5 @@ countedOf kind xs = counted (firstOf (tableChecks kind xs)) (length xs / 32)
 unfoldable pub legsOf : List ℕ → List Leg
 legsOf xs = map legOf (recordsOf xs)
 
--- the legs from record i on
-unfoldable pub legsFrom : List ℕ → ℕ → List Leg
-legsFrom xs i = map legOf (recordsFrom xs i)
-
 unfoldable pub claimsOf : List ℕ → List Claim
 claimsOf xs = map claimOf (recordsOf xs)
-
-unfoldable pub claimsFrom : List ℕ → ℕ → List Claim
-claimsFrom xs i = map claimOf (recordsFrom xs i)

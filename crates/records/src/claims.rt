@@ -1,10 +1,14 @@
 // A claim record: 0-1 group, 8-15 margin, zero elsewhere.
 ghost use mathlib.Core.Path.{_≡_};
-ghost use Rattle.records.specs.Claims.{claimOf, goodClaim};
+ghost use Prim.Native.Nat.{_≤_};
+ghost use lib.ListN.{length};
+ghost use Rattle.records.specs.Chunks.{chunkAt};
+ghost use Rattle.records.specs.Claims.{claimFields, claimOf, goodClaim};
 use crate::dates::is_within;
 use crate::fields::u16_in;
 use crate::fields::u32_in;
 use crate::fields::u64_in;
+use crate::limits::MOST_GROUPS;
 use crate::limits::MOST_MILLS;
 use crate::limits::RECORD_BYTES;
 
@@ -14,15 +18,24 @@ pub struct Claim {
     pub margin: u64,
 }
 
-// The fields of a claim's part; of fewer than 32 bytes a blank, all zero.
-pub fn claim_of(part: &[u8]) -> Claim
-    ensures { λ r. ⌜ r ≡ claimOf (now (part .entry)) ⌝ }
+fn claim_fields(part: &[u8]) -> Claim
+    requires { ⌜ 32 ≤ length (now part) ⌝ }
+    ensures { λ r. ⌜ r ≡ claimFields (now (part .entry)) ⌝ }
 {
-    if RECORD_BYTES <= part.len() {
-        return Claim {
-            group: u16_in(part, 0),
-            margin: u64_in(part, 8),
-        };
+    Claim {
+        group: u16_in(part, 0),
+        margin: u64_in(part, 8),
+    }
+}
+
+// Claim i of a table; past the last whole record a blank, all zero.
+pub fn claim_at(table: &[u8], i: usize) -> Claim
+    ensures { λ r. ⌜ r ≡ claimOf (chunkAt 32 (now (table .entry)) i) ⌝ }
+{
+    if i < table.len() / RECORD_BYTES {
+        let at = RECORD_BYTES * i;
+        let end = at + RECORD_BYTES;
+        return claim_fields(&table[at..end]);
     }
     Claim {
         group: 0,
@@ -36,8 +49,8 @@ pub(crate) fn good_claim(part: &[u8]) -> bool
     if part.len() != RECORD_BYTES {
         return false;
     }
-    let claim = claim_of(part);
-    is_within(1, 32, claim.group as u32)
+    let claim = claim_fields(part);
+    is_within(1, MOST_GROUPS as u32, claim.group as u32)
         & (u16_in(part, 2) == 0)
         & (u32_in(part, 4) == 0)
         & (claim.margin <= MOST_MILLS)

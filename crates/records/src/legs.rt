@@ -2,7 +2,8 @@
 ghost use mathlib.Core.Path.{_≡_};
 ghost use Prim.Native.Nat.{_≤_};
 ghost use lib.ListN.{length};
-ghost use Rattle.records.specs.Legs.{fieldsOf, legOf, inRange, goodLeg};
+ghost use Rattle.records.specs.Chunks.{chunkAt};
+ghost use Rattle.records.specs.Legs.{legFields, legOf, inRange, goodLeg};
 use crate::counts::Contracts;
 use crate::dates::is_within;
 use crate::dates::real_date;
@@ -32,9 +33,9 @@ pub struct Leg {
     pub contracts: Contracts,
 }
 
-fn fields_of(part: &[u8]) -> Leg
+fn leg_fields(part: &[u8]) -> Leg
     requires { ⌜ 32 ≤ length (now part) ⌝ }
-    ensures { λ r. ⌜ r ≡ fieldsOf (now (part .entry)) ⌝ }
+    ensures { λ r. ⌜ r ≡ legFields (now (part .entry)) ⌝ }
 {
     Leg {
         group: u16_in(part, 0),
@@ -50,12 +51,14 @@ fn fields_of(part: &[u8]) -> Leg
     }
 }
 
-// The fields of a record's part; of fewer than 32 bytes a blank, all zero.
-pub fn leg_of(part: &[u8]) -> Leg
-    ensures { λ r. ⌜ r ≡ legOf (now (part .entry)) ⌝ }
+// Leg i of a table; past the last whole record a blank, all zero.
+pub fn leg_at(table: &[u8], i: usize) -> Leg
+    ensures { λ r. ⌜ r ≡ legOf (chunkAt 32 (now (table .entry)) i) ⌝ }
 {
-    if RECORD_BYTES <= part.len() {
-        return fields_of(part);
+    if i < table.len() / RECORD_BYTES {
+        let at = RECORD_BYTES * i;
+        let end = at + RECORD_BYTES;
+        return leg_fields(&table[at..end]);
     }
     Leg {
         group: 0,
@@ -93,5 +96,5 @@ pub(crate) fn good_leg(top: u16, part: &[u8]) -> bool
     if part.len() != RECORD_BYTES {
         return false;
     }
-    in_range(top, leg_of(part)) & (u64_in(part, 24) == 0)
+    in_range(top, leg_fields(part)) & (u64_in(part, 24) == 0)
 }

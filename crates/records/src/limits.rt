@@ -8,5 +8,8 @@ pub const MOST_LEGS: usize = 256;
 
 pub const MOST_CLAIMS: usize = 32;
 
+// 'group, 0 to 32'
+pub const MOST_GROUPS: u16 = 32;
+
 // No margin and no total passes it.
 pub const MOST_MILLS: u64 = 2560000000000000000;

@@ -1,10 +1,11 @@
 // The three tables: holdings, placement, claims. One loop looks at the records of any of them.
 ghost use mathlib.Core.Path.{_≡_};
 ghost use Rattle.records.specs.Order.{firstOf};
-ghost use Rattle.records.specs.Tables.{tableNumber, limitOf, goodRecord, wholeTable, fieldChecks, fieldsChecks, countedOf};
+ghost use Rattle.records.specs.Tables.{tableNumber, limitOf, goodRecord, wholeTable, wholeTables, fieldChecks, fieldsChecks, countedOf};
 use crate::claims::good_claim;
 use crate::legs::good_leg;
 use crate::limits::MOST_CLAIMS;
+use crate::limits::MOST_GROUPS;
 use crate::limits::MOST_LEGS;
 use crate::limits::RECORD_BYTES;
 use crate::refusals::Fault;
@@ -44,21 +45,30 @@ fn limit_of(kind: Kind) -> usize
 }
 
 // Whether a record's part has every field in its range.
-pub fn good_record(kind: Kind, part: &[u8]) -> bool
+fn good_record(kind: Kind, part: &[u8]) -> bool
     ensures { λ r. ⌜ r ≡ goodRecord kind (now (part .entry)) ⌝ }
 {
     match kind {
         Kind::Holdings => good_leg(0, part),
-        Kind::Placement => good_leg(32, part),
+        Kind::Placement => good_leg(MOST_GROUPS, part),
         Kind::Claims => good_claim(part),
     }
 }
 
 // Whether a table of so many bytes is of whole records and within its limit.
-pub fn whole_table(kind: Kind, length: usize) -> bool
+fn whole_table(kind: Kind, length: usize) -> bool
     ensures { λ r. ⌜ r ≡ wholeTable kind length ⌝ }
 {
     (length % RECORD_BYTES == 0) & (length / RECORD_BYTES <= limit_of(kind))
+}
+
+// Whether three tables of so many bytes are each of them so.
+pub fn whole_tables(holdings: usize, placement: usize, claims: usize) -> bool
+    ensures { λ r. ⌜ r ≡ wholeTables holdings placement claims ⌝ }
+{
+    whole_table(Kind::Holdings, holdings)
+        & whole_table(Kind::Placement, placement)
+        & whole_table(Kind::Claims, claims)
 }
 
 // The first record with a field out of range, as refusal 4. Each record is looked at where it

@@ -6,7 +6,7 @@ use native.Mathlib.Omega.{arith}
 use borrow.Author.Tests.{le-leb}
 use lib.IntN.{ℤ, pos}
 use lib.ListN.{length, getD, drop, List·getD-append}
-use Rattle.records.specs.Order.{firstOf, groups, orElse}
+use Rattle.records.specs.Order.{firstOf, groups}
 use Rattle.records.specs.Tables.{fieldChecks, tableChecks, legsOf, claimsOf}
 use Rattle.records.specs.Written.{putAt}
 use Rattle.records.specs.declared.claims.Claim.{Claim}
@@ -15,7 +15,7 @@ use Rattle.records.specs.declared.refusals.Refusal.{Refusal}
 use Rattle.records.specs.declared.refusals.Fault.{Fault}
 use Rattle.records.specs.declared.refusals.Fault.the-variants.{Nothing, Is}
 use Rattle.records.specs.declared.tables.Kind.the-variants.{Holdings, Placement, Claims}
-use Rattle.records.proofs.OrderLaws.{clear, unclear, first-append, first-then, groups-same}
+use Rattle.records.proofs.OrderLaws.{orElse, clear, unclear, first-append, first-then, groups-same}
 use Rattle.records.proofs.PutLaws.{length-putAt}
 use Rattle.records.proofs.TableLaws.{whole, length-claims}
 use Rattle.spreads.specs.Calls.{groupsChecks, listedAnswer, marginsCall, marginsFrom}

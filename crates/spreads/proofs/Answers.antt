@@ -20,9 +20,8 @@ use Rattle.records.specs.declared.tables.Kind.the-variants.{Placement}
 use Rattle.records.proofs.OrderLaws.{first-then, first-stop, clear, unclear, pass-left}
 use Rattle.spreads.specs.Spreads.{groupOf}
 use Rattle.spreads.specs.Strikes.{strikesOf, marginOf}
-use Rattle.spreads.specs.Calls.{listChecks, listedAnswer, marginsFrom}
-use Rattle.spreads.specs.Steps.{Placed, listedIn}
-use Rattle.spreads.specs.declared.calls.Listed.{Listed}
+use Rattle.spreads.specs.Calls.{listedAfter, strikesListed, marginsFrom}
+use Rattle.spreads.specs.Steps.{Placed}
 use Rattle.spreads.specs.declared.calls.Listed.the-variants.{Entries, Refused as Refused-listed}
 
 -- ---- a table that was counted
@@ -55,17 +54,14 @@ module _ (xs : List ℕ) where
 -- ---- a call that lists n entries: its checks, and then 17 where there is no room
 
 module _ (cs : List Check) (room : Bool) (n : ℕ) where
-  abbrev listedAfter : Listed
-  listedAfter = listedAnswer (firstOf (cs ++ ask room 17 0 n ∷ [])) n
-
-  pub list-stop : (r : Refusal) → firstOf cs ≡ Is r → Refused-listed r ≡ listedAfter
+  pub list-stop : (r : Refusal) → firstOf cs ≡ Is r → Refused-listed r ≡ listedAfter cs room n
   list-stop r e = rw (first-stop cs (ask room 17 0 n ∷ []) r e)
 
-  pub list-in : firstOf cs ≡ Nothing → room ≡ true → Entries n ≡ listedAfter
+  pub list-in : firstOf cs ≡ Nothing → room ≡ true → Entries n ≡ listedAfter cs room n
   unfolding firstOf
   list-in e h = rw (first-then cs (ask room 17 0 n ∷ []) e, h)
 
-  pub list-out : firstOf cs ≡ Nothing → room ≡ false → Refused-listed (refuse 17 0 n) ≡ listedAfter
+  pub list-out : firstOf cs ≡ Nothing → room ≡ false → Refused-listed (refuse 17 0 n) ≡ listedAfter cs room n
   unfolding firstOf
   list-out e h = rw (first-then cs (ask room 17 0 n ∷ []) e, h)
 
@@ -77,12 +73,12 @@ module _ (legs : List Leg) (a b n : ℕ) (e : n ≡ length (strikesOf legs)) whe
       let p = and-eq-true-iff (leb n a) (leb n b) .0 h in
       rw (← e) (leb-true n a (p .0), leb-true n b (p .1))
 
-  pub strikes-in : leb n a && leb n b ≡ true → Entries n ≡ listedIn legs a b
-  unfolding listedIn listChecks firstOf
+  pub strikes-in : leb n a && leb n b ≡ true → Entries n ≡ strikesListed [] legs a b
+  unfolding strikesListed firstOf
   strikes-in h = rw (← e) (list-in [] (leb n a && leb n b) n refl h)
 
-  pub strikes-out : leb n a && leb n b ≡ false → Refused-listed (refuse 17 0 n) ≡ listedIn legs a b
-  unfolding listedIn listChecks firstOf
+  pub strikes-out : leb n a && leb n b ≡ false → Refused-listed (refuse 17 0 n) ≡ strikesListed [] legs a b
+  unfolding strikesListed firstOf
   strikes-out h = rw (← e) (list-out [] (leb n a && leb n b) n refl h)
 
 -- ---- the margins as a list

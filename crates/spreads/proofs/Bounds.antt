@@ -1,22 +1,20 @@
 -- How much legs within their ranges can be worth at a price that a strike can have, and how much a group can lose.
-use Prim.Native.Nat.{ℕ, zero, suc, _-_, _*_, _/_, _≤_, _<_}
+use Prim.Native.Nat.{ℕ, _-_, _*_, _/_, _≤_, _<_}
 use mathlib.Core.Bool.{Bool}
 use mathlib.Core.List.{List, [], _∷_}
 use native.Mathlib.Nat.{mul-le-mul}
-use native.Mathlib.Numerals.{add-one}
 use native.Mathlib.Omega.{arith}
 use lib.Dec.{eqb}
 use lib.ListN.{length}
 use Rattle.records.specs.Lists.{only, sum, most, All}
 use Rattle.records.specs.Chunks.{chunkAt}
-use Rattle.records.specs.Legs.{isLong, isShort, isCall, isPut, units, legOf}
-use Rattle.records.specs.Tables.{tableChecks, fieldChecks, legsOf, legsFrom}
+use Rattle.records.specs.Legs.{isLong, isShort, isCall, isPut, legOf}
+use Rattle.records.specs.Tables.{tableChecks, fieldChecks, legsOf}
 use Rattle.records.specs.declared.legs.Leg.{Leg}
 use Rattle.records.specs.declared.tables.Kind.the-variants.{Placement}
-use Rattle.records.proofs.ChunkLaws.{legs-all, legs-step}
 use Rattle.records.proofs.ListLaws.{only-le, all-map, all-keep, length-keep, sum-bound}
 use Rattle.records.proofs.OrderLaws.{clear, unclear}
-use Rattle.records.proofs.TableLaws.{Ranges, units-small, placement-ranges, length-legs, whole}
+use Rattle.records.proofs.TableLaws.{record-good, good-ranges, Ranges, units-small, placement-ranges, length-legs, whole}
 use Rattle.spreads.specs.Prices.{intrinsic, value, longAt, shortAt, at, lossAt}
 use Rattle.spreads.specs.Strikes.{marginOf}
 use Rattle.spreads.specs.Spreads.{groupOf}
@@ -31,17 +29,17 @@ intrinsic-small k l r h =
     omega (arith, only-le (isCall l) (k - 1 * l .strike), only-le (isPut l) (1 * l .strike - k), r .strike)
 
 -- at most 100,000,000 units of 100,000,000 mills
-pub worth-small : (k : ℕ) (l : Leg) → Ranges 32 l → k < top → units l * intrinsic 1 k l ≤ 10000000000000000
+pub worth-small : (k : ℕ) (l : Leg) → Ranges 32 l → k < top → value 1 (at k) l ≤ 10000000000000000
+unfolding value
 worth-small k l r h = mul-le-mul (units-small 32 l r .1) (intrinsic-small k l r h)
 
 -- ---- many legs
 
 module _ (k : ℕ) (legs : List Leg) (r : All (Ranges 32) legs) (h : k < top) where
   side-bound : (side : Leg → Bool) → sum (λ l. only (side l) (value 1 (at k) l)) legs ≤ 10000000000000000 * length legs
-  unfolding value
   side-bound side =
       sum-bound _ 10000000000000000 legs
-      (all-map legs (λ l q. omega (arith, worth-small k l q h, only-le (side l) (units l * intrinsic 1 k l))) r)
+      (all-map legs (λ l q. omega (arith, worth-small k l q h, only-le (side l) (value 1 (at k) l))) r)
 
   loss-bound : lossAt legs k ≤ 10000000000000000 * length legs
   unfolding lossAt shortAt
@@ -89,12 +87,9 @@ module _ (xs : List ℕ) (p : Placed xs) where
   unfolding tableChecks
   table-ranges = placement-ranges xs (unclear (fieldChecks Placement xs) (clear _ p .1))
 
-  from-ranges : (i : ℕ) → i ≤ length xs / 32 → All (Ranges 32) (legsFrom xs i)
-  from-ranges zero h = rw (legs-all xs) table-ranges
-  from-ranges (suc i) h = rw add-one at ((rw (legs-step xs i (omega arith)) at (from-ranges i (omega arith))) .1)
-
   pub leg-ranges : (i : ℕ) → i < length xs / 32 → Ranges 32 (legOf (chunkAt 32 xs i))
-  leg-ranges i h = (rw (legs-step xs i h) at (from-ranges i (omega arith))) .0
+  unfolding tableChecks
+  leg-ranges i h = good-ranges 32 (chunkAt 32 xs i) (record-good Placement xs i (unclear (fieldChecks Placement xs) (clear _ p .1)) h)
 
   module _ (g : ℕ) where
     pub group-ranges : All (Ranges 32) (groupOf g (legsOf xs))

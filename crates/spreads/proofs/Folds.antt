@@ -8,33 +8,30 @@ use lib.ListN.{length}
 use borrow.Author.Tests.{eq-eqb, ne-eqb}
 use Rattle.records.specs.Chunks.{chunkAt}
 use Rattle.records.specs.Legs.{legOf}
-use Rattle.records.specs.Tables.{legsOf, legsFrom}
+use Rattle.records.specs.Tables.{legsOf}
 use Rattle.records.specs.declared.legs.Leg.{Leg}
 use Rattle.records.proofs.ListLaws.{keep-in, keep-out, keep-none}
-use Rattle.records.proofs.ChunkLaws.{legs-all, legs-none, legs-step}
+use Rattle.records.proofs.ChunkLaws.{rowsFrom, rows-all, rows-next, rows-none}
 use Rattle.spreads.specs.Spreads.{groupOf}
 
 -- ---- what is left of the group from record i on
 
 abbrev pub rest : ℕ → List ℕ → ℕ → List Leg
-rest g xs i = groupOf g (legsFrom xs i)
+rest g xs i = groupOf g (rowsFrom legOf xs i)
 
 module _ (g : ℕ) (xs : List ℕ) (i : ℕ) where
   rest-none : length xs / 32 ≤ i → rest g xs i ≡ []
   unfolding groupOf
-  rest-none h = keep-none (λ l. eqb (l .group) g) (legsFrom xs i) (legs-none xs i h)
+  rest-none h = keep-none (λ l. eqb (l .group) g) (rowsFrom legOf xs i) (rows-none legOf xs i h)
 
   module _ (l : Leg) (h : i < length xs / 32) (e : l ≡ legOf (chunkAt 32 xs i)) where
-    legs-next : legsFrom xs i ≡ l ∷ legsFrom xs (i + 1)
-    legs-next = rw e (legs-step xs i h)
-
     rest-in : l .group ≡ g → rest g xs i ≡ l ∷ rest g xs (i + 1)
     unfolding groupOf
-    rest-in q = keep-in (λ k. eqb (k .group) g) l (legsFrom xs i) (legsFrom xs (i + 1)) legs-next (eq-eqb (l .group) g q)
+    rest-in q = keep-in (λ k. eqb (k .group) g) l (rowsFrom legOf xs i) (rowsFrom legOf xs (i + 1)) (rows-next legOf xs i l h e) (eq-eqb (l .group) g q)
 
     rest-out : (l .group ≡ g → ⊥) → rest g xs i ≡ rest g xs (i + 1)
     unfolding groupOf
-    rest-out q = keep-out (λ k. eqb (k .group) g) l (legsFrom xs i) (legsFrom xs (i + 1)) legs-next (ne-eqb (l .group) g q)
+    rest-out q = keep-out (λ k. eqb (k .group) g) l (rowsFrom legOf xs i) (rowsFrom legOf xs (i + 1)) (rows-next legOf xs i l h e) (ne-eqb (l .group) g q)
 
 -- ---- the loop over n records: the state with the legs still to come is the whole group's
 
@@ -46,8 +43,9 @@ module _ {A : Type 0} where
 
   pub fold-none : {step : A → Leg → A} {none : A} {g : ℕ} {xs : List ℕ} {state : A} → state ≡ none
       → Folding step none g xs (length xs / 32) 0 state
+  unfolding legsOf
   fold-none {step} {none} {g} {xs} e =
-      rw e (record { all = omega arith; many = omega arith; is = ap (λ (ls : List Leg). foldl step none (groupOf g ls)) (legs-all xs) })
+      rw e (record { all = omega arith; many = omega arith; is = ap (λ (ls : List Leg). foldl step none (groupOf g ls)) (rows-all legOf xs) })
 
   module _ {step : A → Leg → A} {none : A} {g : ℕ} {xs : List ℕ} {n i : ℕ} {state : A} (f : Folding step none g xs n i state) where
     pub fold-done : n ≤ i → state ≡ foldl step none (groupOf g (legsOf xs))

@@ -43,17 +43,18 @@ series-none legs e = all-allb _ legs (all-map legs (λ a q. all-allb (λ b. not 
 pub pass-spread : (g : ℕ) (legs : List Leg) → Pass (spreadChecks g legs) → Spread g legs
 unfolding spreadChecks
 pass-spread g legs p =
-    let n = and-eq-true-iff (within 1 32 g) (leb 1 (length legs)) .0 (p .0) in
+    let (six, (seven, (eight, (nine, (ten, (eleven, (twelve, (thirteen, end)))))))) = p in
+    let n = and-eq-true-iff (within 1 32 g) (leb 1 (length legs)) .0 six in
     record {
       numbered = within-true 1 32 g (n .0);
       leg = leb-true 1 (length legs) (n .1);
-      underlying = one-value (λ l. l .underlying) legs (p .1 .0);
-      style = one-value (λ l. l .style) legs (p .1 .1 .0);
-      market = one-value (λ l. l .market) legs (p .1 .1 .1 .0);
-      series = none-series legs (p .1 .1 .1 .1 .0);
-      calls = eqb-true _ _ (p .1 .1 .1 .1 .1 .0);
-      puts = eqb-true _ _ (p .1 .1 .1 .1 .1 .1 .0);
-      lives = leb-true _ _ (p .1 .1 .1 .1 .1 .1 .1 .0);
+      underlying = one-value (λ l. l .underlying) legs seven;
+      style = one-value (λ l. l .style) legs eight;
+      market = one-value (λ l. l .market) legs nine;
+      series = none-series legs ten;
+      calls = eqb-true _ _ eleven;
+      puts = eqb-true _ _ twelve;
+      lives = leb-true _ _ thirteen;
     }
 
 pub spread-pass : (g : ℕ) (legs : List Leg) → Spread g legs → Pass (spreadChecks g legs)

@@ -1,5 +1,5 @@
 -- What a group is worth at a price: the loop that adds up both sides, and what they say of the net and the loss.
-use Prim.Native.Nat.{ℕ, _+_, _-_, _*_, _≤_, _<_, _^_}
+use Prim.Native.Nat.{ℕ, _+_, _-_, _≤_, _<_, _^_}
 use mathlib.Core.Path.{_≡_, ap}
 use mathlib.Core.List.{List, [], _∷_, foldl}
 use native.Mathlib.Omega.{arith}
@@ -7,11 +7,11 @@ use lib.IntN.{pos, _-ℤ_}
 use lib.ListN.{length}
 use Rattle.records.specs.Lists.{sum, All}
 use Rattle.records.specs.Chunks.{chunkAt}
-use Rattle.records.specs.Legs.{units, legOf}
+use Rattle.records.specs.Legs.{legOf}
 use Rattle.records.specs.Tables.{legsOf}
 use Rattle.records.specs.declared.legs.Leg.{Leg}
 use Rattle.records.proofs.TableLaws.{Ranges}
-use Rattle.spreads.specs.Prices.{intrinsic, value, longAt, shortAt, at, net, lossAt}
+use Rattle.spreads.specs.Prices.{value, longAt, shortAt, at, net, lossAt}
 use Rattle.spreads.specs.Spreads.{groupOf}
 use Rattle.spreads.specs.Steps.{Placed, top, withWorth, noWorth, worthAt}
 use Rattle.spreads.specs.declared.prices.Worth.{Worth}
@@ -23,16 +23,16 @@ use Rattle.spreads.proofs.Folds.{rest, Folding}
 -- both sums with the legs still to come
 worth-more : (k : ℕ) (w : Worth) (legs : List Leg)
     → (foldl (withWorth k) w legs .long ≡ w .long + longAt 1 (at k) legs) × (foldl (withWorth k) w legs .short ≡ w .short + shortAt 1 (at k) legs)
-unfolding withWorth longAt shortAt sum value
+unfolding withWorth longAt shortAt sum
 worth-more k w [] = (omega arith, omega arith)
 worth-more k w (l ∷ legs) = let r = worth-more k (withWorth k w l) legs in (omega arith, omega arith)
 
 -- both sums have room for the next leg
 pub worth-room : {k g : ℕ} {xs : List ℕ} {n i : ℕ} {w : Worth} → Folding (withWorth k) noWorth g xs n i w → Placed xs → k < top
     → i < n → {l : Leg} → l ≡ legOf (chunkAt 32 xs i)
-    → (w .long + units l * intrinsic 1 k l < 2 ^ 64) × (w .short + units l * intrinsic 1 k l < 2 ^ 64)
+    → (w .long + value 1 (at k) l < 2 ^ 64) × (w .short + value 1 (at k) l < 2 ^ 64)
 worth-room {k} {g} {xs} {i = i} {w = w} f p b h {l} e =
-    let v : units l * intrinsic 1 k l ≤ 10000000000000000 = rw e (worth-small k (legOf (chunkAt 32 xs i)) (leg-ranges xs p i (omega arith)) b) in
+    let v : value 1 (at k) l ≤ 10000000000000000 = rw e (worth-small k (legOf (chunkAt 32 xs i)) (leg-ranges xs p i (omega arith)) b) in
     let all = sides-small k (groupOf g (legsOf xs)) (group-ranges xs p g) b (group-few xs p g) in
     let whole = worth-more k noWorth (groupOf g (legsOf xs)) in
     let part = worth-more k w (rest g xs i) in

@@ -1,6 +1,6 @@
 -- What the calls of one group answer, and what they leave in the slices that they are lent.
 use Prim.Native.Nat.{ℕ, zero, suc, _+_}
-use mathlib.Core.Bool.{_&&_}
+use mathlib.Core.Bool.{Bool, _&&_}
 use mathlib.Core.List.{List, [], _∷_, _++_}
 use lib.Dec.{leb}
 use lib.IntN.{ℤ, pos}
@@ -31,19 +31,21 @@ dueAnswer (Is r) mills = Refused-due r
 unfoldable pub marginCall : List ℕ → ℕ → Due
 marginCall xs g = dueAnswer (firstOf (groupChecks xs g)) (marginOf (groupOf g (legsOf xs)))
 
--- 17: '0, strikes needed, if either slice is shorter'
-unfoldable pub listChecks : List Leg → ℕ → ℕ → List Check
-listChecks legs roomStrikes roomNets =
-    ask (leb (length (strikesOf legs)) roomStrikes && leb (length (strikesOf legs)) roomNets) 17 0 (length (strikesOf legs)) ∷ []
-
 abbrev pub listedAnswer : Fault → ℕ → Listed
 listedAnswer Nothing n = Entries n
 listedAnswer (Is r) n = Refused-listed r
 
-unfoldable pub worksheetCall : List ℕ → ℕ → ℕ → ℕ → Listed
-worksheetCall xs g roomStrikes roomNets =
-    listedAnswer (firstOf (groupChecks xs g ++ listChecks (groupOf g (legsOf xs)) roomStrikes roomNets))
-    (length (strikesOf (groupOf g (legsOf xs))))
+-- a call that lists n entries: its checks, then 17 with n where there is no room for them
+abbrev pub listedAfter : List Check → Bool → ℕ → Listed
+listedAfter cs room n = listedAnswer (firstOf (cs ++ ask room 17 0 n ∷ [])) n
+
+-- 17: '0, strikes needed, if either slice is shorter'
+unfoldable pub strikesListed : List Check → List Leg → ℕ → ℕ → Listed
+strikesListed cs legs roomStrikes roomNets =
+    listedAfter cs (leb (length (strikesOf legs)) roomStrikes && leb (length (strikesOf legs)) roomNets) (length (strikesOf legs))
+
+abbrev pub worksheetCall : List ℕ → ℕ → ℕ → ℕ → Listed
+worksheetCall xs g roomStrikes roomNets = strikesListed (groupChecks xs g) (groupOf g (legsOf xs)) roomStrikes roomNets
 
 -- what a lent slice holds then: the list from index 0, entries beyond stay; on a refusal all stays
 module _ {A : Type 0} where
@@ -63,4 +65,4 @@ groupsChecks xs n = tableChecks Placement xs ++ groups n (λ g. spreadChecks g (
 
 -- 17: '0, n', if the slice is shorter
 unfoldable pub marginsCall : List ℕ → ℕ → ℕ → Listed
-marginsCall xs n room = listedAnswer (firstOf (groupsChecks xs n ++ (ask (leb n room) 17 0 n ∷ []))) n
+marginsCall xs n room = listedAfter (groupsChecks xs n) (leb n room) n

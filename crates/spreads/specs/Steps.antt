@@ -1,25 +1,21 @@
 -- What the steps of the calls compute, for the contracts of functions that are not public.
-use Prim.Native.Nat.{ℕ, _+_, _*_, min}
+use Prim.Native.Nat.{ℕ, _+_, min}
 use mathlib.Core.Path.{_≡_}
 use mathlib.Core.Bool.{Bool, not, _&&_, cond}
 use mathlib.Core.List.{List, [], _∷_, foldl}
 use lib.Dec.{eqb, ltb}
-use lib.ListN.{length}
 use Rattle.records.specs.Lists.{only}
-use Rattle.records.specs.Legs.{isLong, isShort, units}
+use Rattle.records.specs.Legs.{isLong, isShort}
 use Rattle.records.specs.Order.{firstOf, refuse}
 use Rattle.records.specs.Tables.{tableChecks}
 use Rattle.records.specs.declared.legs.Leg.{Leg}
 use Rattle.records.specs.declared.refusals.Fault.{Fault}
 use Rattle.records.specs.declared.refusals.Fault.the-variants.{Nothing, Is}
 use Rattle.records.specs.declared.tables.Kind.the-variants.{Placement}
-use Rattle.spreads.specs.Prices.{intrinsic}
-use Rattle.spreads.specs.Strikes.{strikesOf}
+use Rattle.spreads.specs.Prices.{value, at}
 use Rattle.spreads.specs.Gathered.{isBalanced}
-use Rattle.spreads.specs.Calls.{listChecks, listedAnswer}
 use Rattle.spreads.specs.declared.facts.Facts.{Facts}
 use Rattle.spreads.specs.declared.prices.Worth.{Worth}
-use Rattle.spreads.specs.declared.calls.Listed.{Listed}
 
 -- a placement table that has passed 1 and 4
 abbrev pub Placed : List ℕ → Type 0
@@ -46,8 +42,8 @@ numberFault number g = cond (eqb number 0) Nothing (Is (refuse number 2 g))
 unfoldable pub withWorth : ℕ → Worth → Leg → Worth
 withWorth price w l =
     record {
-      long = w .long + only (isLong l) (units l * intrinsic 1 price l);
-      short = w .short + only (isShort l) (units l * intrinsic 1 price l);
+      long = w .long + only (isLong l) (value 1 (at price) l);
+      short = w .short + only (isShort l) (value 1 (at price) l);
     }
 
 abbrev pub noWorth : Worth
@@ -70,8 +66,3 @@ nearerOf x least strike = cond (ltb x strike) (min least strike) least
 unfoldable pub firstAbove : ℕ → List ℕ → ℕ
 firstAbove x [] = top
 firstAbove x (y ∷ ys) = cond (ltb x y) y (firstAbove x ys)
-
--- ---- the worksheet of a group that is a spread
-
-unfoldable pub listedIn : List Leg → ℕ → ℕ → Listed
-listedIn legs roomStrikes roomNets = listedAnswer (firstOf (listChecks legs roomStrikes roomNets)) (length (strikesOf legs))

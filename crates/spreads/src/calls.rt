@@ -1,5 +1,6 @@
 // The public calls of one group, and of groups 1 to n.
 ghost use mathlib.Core.Path.{_≡_};
+ghost use mathlib.Core.List.{[]};
 ghost use Prim.Native.Nat.{_≤_};
 ghost use lib.ListN.{length};
 ghost use Rattle.records.specs.Order.{firstOf, groups};
@@ -7,8 +8,8 @@ ghost use Rattle.records.specs.Tables.{legsOf};
 ghost use Rattle.records.specs.Written.{putAt};
 ghost use Rattle.spreads.specs.Strikes.{strikesOf, netsOf};
 ghost use Rattle.spreads.specs.Spreads.{groupOf, spreadChecks};
-ghost use Rattle.spreads.specs.Calls.{groupChecks, groupsChecks, marginCall, worksheetCall, listLeft, marginsCall, marginsFrom};
-ghost use Rattle.spreads.specs.Steps.{Placed, listedIn};
+ghost use Rattle.spreads.specs.Calls.{groupChecks, groupsChecks, marginCall, worksheetCall, listLeft, marginsCall, marginsFrom, strikesListed};
+ghost use Rattle.spreads.specs.Steps.{Placed};
 use crate::rule::group_fault;
 use crate::walk::count_strikes;
 use crate::walk::fill;
@@ -53,7 +54,7 @@ pub fn margin(placement: &[u8], g: usize) -> Due
 // The worksheet of a group that is a spread: 17, or the lists.
 fn list_strikes(placement: &[u8], g: usize, strikes: &mut [u32], nets: &mut [i64]) -> Listed
     requires { ⌜ Placed (now placement) ⌝ }
-    ensures { λ r. ⌜ r ≡ listedIn (groupOf g (legsOf (now (placement .entry)))) (length (now (strikes .entry))) (length (now (nets .entry))) ⌝ }
+    ensures { λ r. ⌜ r ≡ strikesListed [] (groupOf g (legsOf (now (placement .entry)))) (length (now (strikes .entry))) (length (now (nets .entry))) ⌝ }
     ensures { λ r. ⌜ now (strikes .exit) ≡ listLeft r (strikesOf (groupOf g (legsOf (now (placement .entry))))) (now (strikes .entry)) ⌝ }
     ensures { λ r. ⌜ now (nets .exit) ≡ listLeft r (netsOf (groupOf g (legsOf (now (placement .entry))))) (now (nets .entry)) ⌝ }
 {

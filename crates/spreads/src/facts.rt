@@ -3,10 +3,10 @@ ghost use mathlib.Core.Path.{_≡_};
 ghost use Rattle.records.specs.Tables.{legsOf};
 ghost use Rattle.spreads.specs.Spreads.{groupOf};
 ghost use Rattle.spreads.specs.Gathered.{noFacts, withFirsts, withUnits, isBalanced, withExpiry, withLeg, gathered};
-use crate::legs::leg_at;
 use records::Leg;
 use records::RECORD_BYTES;
 use records::Units;
+use records::leg_at;
 
 // More than any date.
 const NEVER: u32 = 99999999;

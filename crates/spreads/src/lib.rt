@@ -2,7 +2,6 @@
 // Document 01, 'The rule of a spread'. No public function has a `requires`.
 mod calls;
 mod facts;
-mod legs;
 mod pairs;
 mod prices;
 mod rule;

@@ -6,9 +6,9 @@ ghost use lib.ListN.{length};
 ghost use Rattle.records.specs.Tables.{legsOf};
 ghost use Rattle.spreads.specs.Spreads.{groupOf, doubled, noneDoubled};
 ghost use Rattle.spreads.specs.Search.{clash, firstPair};
-use crate::legs::leg_at;
 use records::Leg;
 use records::RECORD_BYTES;
+use records::leg_at;
 
 // The places of two legs of one series on both sides: the later one, and the earlier one.
 pub enum Pair {

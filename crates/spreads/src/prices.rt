@@ -2,14 +2,13 @@
 ghost use mathlib.Core.Path.{_≡_};
 ghost use Prim.Native.Nat.{_+_, _-_, _*_, _<_, _≤_, _^_};
 ghost use lib.IntN.{pos, _-ℤ_};
-ghost use Rattle.records.specs.Legs.{units};
 ghost use Rattle.records.specs.Tables.{legsOf};
-ghost use Rattle.spreads.specs.Prices.{intrinsic};
+ghost use Rattle.spreads.specs.Prices.{intrinsic, value, at};
 ghost use Rattle.spreads.specs.Spreads.{groupOf};
 ghost use Rattle.spreads.specs.Steps.{Placed, top, withWorth, worthAt};
-use crate::legs::leg_at;
 use records::Leg;
 use records::RECORD_BYTES;
+use records::leg_at;
 
 // In mills.
 pub struct Worth {
@@ -17,28 +16,32 @@ pub struct Worth {
     pub short: u64,
 }
 
+// What a is more than b, or 0.
+fn excess(a: u64, b: u64) -> u64
+    ensures { λ r. ⌜ r ≡ a - b ⌝ }
+{
+    if b < a {
+        return a - b;
+    }
+    0
+}
+
 // Of one unit, at a price in whole mills.
 fn intrinsic_at(leg: Leg, price: u32) -> u64
     ensures { λ r. ⌜ r ≡ intrinsic 1 price leg ⌝ }
 {
-    let strike = leg.strike;
     if leg.right == 1 {
-        if strike < price {
-            return (price - strike) as u64;
-        }
-        return 0;
+        return excess(price as u64, leg.strike as u64);
     }
     if leg.right == 2 {
-        if price < strike {
-            return (strike - price) as u64;
-        }
+        return excess(leg.strike as u64, price as u64);
     }
     0
 }
 
 impl Worth {
     fn with_leg(mut self, leg: Leg, price: u32) -> Worth
-        requires { ⌜ (self .long + units leg * intrinsic 1 price leg < 2 ^ 64) × (self .short + units leg * intrinsic 1 price leg < 2 ^ 64) ⌝ }
+        requires { ⌜ (self .long + value 1 (at price) leg < 2 ^ 64) × (self .short + value 1 (at price) leg < 2 ^ 64) ⌝ }
         ensures { λ r. ⌜ r ≡ withWorth price self leg ⌝ }
     {
         let mills = leg.contracts.units(leg.size).number() * intrinsic_at(leg, price);
@@ -55,10 +58,7 @@ impl Worth {
     pub(crate) fn loss(self) -> u64
         ensures { λ r. ⌜ r ≡ self .short - self .long ⌝ }
     {
-        if self.long < self.short {
-            return self.short - self.long;
-        }
-        0
+        excess(self.short, self.long)
     }
 
     pub(crate) fn net(self) -> i64

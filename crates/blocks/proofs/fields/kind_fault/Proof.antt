@@ -5,12 +5,12 @@ use Prim.Native.Nat.{ℕ, _+_, _-_, _*_, _/_, _≤_}
 use native.Mathlib.Omega.{arith}
 use lib.ListN.{length}
 use Rattle.records.specs.Chunks.{chunks, chunkAt, recordsOf}
-use Rattle.records.specs.Order.{firstOf, orElse}
+use Rattle.records.specs.Order.{firstOf}
 use Rattle.records.specs.Tables.{tableNumber, goodRecord, fieldChecks}
 use Rattle.records.specs.declared.refusals.Fault.{Fault}
 use Rattle.records.specs.declared.tables.Kind.{Kind}
 use Rattle.records.proofs.ChunkLaws.{part-is}
-use Rattle.records.proofs.OrderLaws.{moved, ask-none}
+use Rattle.records.proofs.OrderLaws.{orElse, moved, ask-none}
 use Rattle.blocks.specs.File.{blocksOf, countAs, recordsAs, joined}
 use Rattle.blocks.specs.Steps.{Sized}
 use Rattle.blocks.proofs.FileLaws.{blocksFrom, blocks-all, blocks-step, blocks-none, sized-at, recordsAs-part, joined-none}

@@ -1,6 +1,9 @@
-use borrow.Author.Tests.{eq-eqb, ne-eqb}
-use Rattle.records.specs.Legs.{goodLeg}
+use denote.Ref.{now}
+use lib.ListN.{length}
+use native.Mathlib.Omega.{arith}
 use borrow.Author.Needs.{needs}
+use borrow.Author.Tests.{eq-eqb, ne-eqb, le-leb}
+use Rattle.records.specs.Legs.{legOf, goodLeg}
 use Rattle.records.proofs.legs.good_leg.Statement.{statement}
 use Rattle.records.proofs.legs.good_leg.Tie as tie
 
@@ -9,9 +12,11 @@ unfolding goodLeg
 returns c = simp (ne-eqb _ _ (c .if1 .taken))
 
 returns-2 : tie.Need-returns-2
-unfolding goodLeg
+unfolding goodLeg legOf
 returns-2 c =
-    rw (c .u64-in .ensures, c .before .in-range .ensures, c .before .before .leg-of .ensures, eq-eqb _ _ (c .before .before .before .if1 .left))
+    let f = c .before .before in
+    let part = now (f .before .before .before .args .part) in
+    rw (c .u64-in .ensures, c .before .in-range .ensures, f .leg-fields .ensures, eq-eqb _ _ (f .before .if1 .left), le-leb 32 (length part) (omega (arith, f .before .if1 .left)))
 
 pub good-leg-spec : {M : Type 1} → statement M
 good-leg-spec =

@@ -1,8 +1,7 @@
 use mathlib.Core.Path.{refl, sym, _∙_}
 use borrow.Author.Needs.{needs}
 use Rattle.records.proofs.OrderLaws.{first-then}
-use Rattle.spreads.specs.Calls.{groupChecks, listChecks, worksheetCall}
-use Rattle.spreads.specs.Steps.{listedIn}
+use Rattle.spreads.specs.Calls.{groupChecks, strikesListed}
 use Rattle.spreads.proofs.Answers.{placed-first, list-stop}
 use Rattle.spreads.proofs.calls.worksheet.Statement.{statement}
 use Rattle.spreads.proofs.calls.worksheet.Tie as tie
@@ -14,12 +13,12 @@ list-strikes-requires c κs =
     placed-first _ _ (sym (t .before .before .checked-group .ensures) ∙ t .enum-told .given .1)
 
 returns : tie.Need-returns
-unfolding worksheetCall listChecks
+unfolding strikesListed
 returns c =
     (list-stop _ _ _ _ (sym (c .before .before .before .checked-group .ensures) ∙ c .before .refusal .given .1), (refl, refl))
 
 returns-2 : tie.Need-returns-2
-unfolding worksheetCall listedIn
+unfolding strikesListed
 returns-2 c =
     let t = c .before .before .before in
     let u = t .before .before .before in

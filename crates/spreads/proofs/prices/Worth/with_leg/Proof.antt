@@ -4,15 +4,15 @@ use native.Mathlib.Nat.{add-zero}
 use native.Mathlib.Omega.{arith}
 use borrow.Author.Needs.{needs}
 use borrow.Author.Tests.{ne-eqb}
-use Rattle.records.specs.Legs.{units}
-use Rattle.spreads.specs.Prices.{intrinsic}
+use Rattle.spreads.specs.Prices.{value, at}
 use Rattle.spreads.specs.Steps.{withWorth}
 use Rattle.spreads.proofs.prices.Worth.with_leg.Statement.{statement}
 use Rattle.spreads.proofs.prices.Worth.with_leg.Tie as tie
 
 -- the product is what the leg is worth
 mills : (c : tie.After-intrinsic-at)
-    → let a = c .before .before .before .args in c .before .number .result * c .intrinsic-at .result ≡ units (a .leg) * intrinsic 1 (a .price) (a .leg)
+    → let a = c .before .before .before .args in c .before .number .result * c .intrinsic-at .result ≡ value 1 (at (a .price)) (a .leg)
+unfolding value
 mills c = rw (c .before .number .ensures, c .before .before .units .ensures, c .intrinsic-at .ensures)
 
 returns : tie.Need-returns

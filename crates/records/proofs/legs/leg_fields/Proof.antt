@@ -1,10 +1,10 @@
-use Rattle.records.specs.Legs.{fieldsOf}
+use Rattle.records.specs.Legs.{legFields}
 use borrow.Author.Needs.{needs}
-use Rattle.records.proofs.legs.fields_of.Statement.{statement}
-use Rattle.records.proofs.legs.fields_of.Tie as tie
+use Rattle.records.proofs.legs.leg_fields.Statement.{statement}
+use Rattle.records.proofs.legs.leg_fields.Tie as tie
 
 returns : tie.Need-returns
-unfolding fieldsOf
+unfolding legFields
 returns c =
     let b = c .before .before .before .before in
     rw (
@@ -20,8 +20,8 @@ returns c =
       b .before .before .before .before .before .u16-in .ensures,
     )
 
-pub fields-of-spec : {M : Type 1} → statement M
-fields-of-spec =
+pub leg-fields-spec : {M : Type 1} → statement M
+leg-fields-spec =
     tie.close
     (tie.spec
     (λ c κs. search needs)
