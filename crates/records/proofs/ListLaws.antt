@@ -1,6 +1,6 @@
 -- Laws of sums, greatest values, choices and claims about all, over any list.
 use mathlib.Core.Path.{_≡_, refl}
-use mathlib.Core.Bool.{Bool, true, false, cond, not, and-eq-true-iff}
+use mathlib.Core.Bool.{Bool, true, false, cond, not, _&&_, and-assoc, and-eq-true-iff}
 use mathlib.Core.List.{List, [], _∷_, _++_, map, List·Memᴰ, List·Memᴰ·head, List·Memᴰ·tail}
 use Prim.Native.Nat.{ℕ, zero, suc, _+_, _*_, _≤_, _<_}
 use native.Mathlib.Nat.{le-trans, le-max-left, le-max-right, not-suc-le-zero, le-of-suc-le-suc}
@@ -20,6 +20,17 @@ only-le false n = omega arith
 pub map-all : {A B : Type 0} (f : A → B) (P : B → Type 0) (Q : A → Type 0) (l : List A) → ((x : A) → Q x → P (f x)) → All Q l → All P (map f l)
 map-all f P Q [] h a = tt
 map-all f P Q (x ∷ l) h a = (h x (a .0), map-all f P Q l h (a .1))
+
+pub most-map : {A B : Type 0} (f : A → B) (g : B → ℕ) (h : A → ℕ) → ((x : A) → g (f x) ≡ h x) → (l : List A) → most h l ≡ most g (map f l)
+unfolding most
+most-map f g h e [] = refl
+most-map f g h e (x ∷ l) = omega (arith, e x, most-map f g h e l)
+
+swap : (a b c d : Bool) → (a && b && (c && d)) ≡ (a && c && (b && d))
+swap false b c d = refl
+swap true true c d = refl
+swap true false true d = refl
+swap true false false d = refl
 
 module _ {A : Type 0} where
   pub all-map : {P Q : A → Type 0} (l : List A) → ((x : A) → P x → Q x) → All P l → All Q l
@@ -66,6 +77,11 @@ module _ {A : Type 0} where
         | yes k ↦ (x, List·Memᴰ·head refl, k)
         | no k ↦ let r = most-hit f xs m (omega arith) in (r .0, List·Memᴰ·tail (r .1), r .2)
       ]
+
+  pub most-bound : (f : A → ℕ) (b : ℕ) (l : List A) → All (λ x. f x ≤ b) l → most f l ≤ b
+  unfolding most
+  most-bound f b [] a = omega arith
+  most-bound f b (x ∷ xs) a = omega (arith, a .0, most-bound f b xs (a .1))
 
   pub sum-ext : (f g : A → ℕ) (l : List A) → All (λ x. f x ≡ g x) l → sum f l ≡ sum g l
   unfolding sum
@@ -141,6 +157,15 @@ module _ {A : Type 0} where
   unfolding keep
   keep-none t l e = rw e
 
+  pub keep-append : (t : A → Bool) (a b : List A) → keep t (a ++ b) ≡ keep t a ++ keep t b
+  unfolding keep
+  keep-append t [] b = refl
+  keep-append t (x ∷ a) b = rw (keep-append t a b) (go (t x))
+    where
+      go : (c : Bool) → cond c (x ∷ keep t a ++ keep t b) (keep t a ++ keep t b) ≡ cond c (x ∷ keep t a) (keep t a) ++ keep t b
+      go true = refl
+      go false = refl
+
   -- ---- tests of all elements
 
   pub allb-all : (t : A → Bool) (l : List A) → allb t l ≡ true → All (λ x. t x ≡ true) l
@@ -154,3 +179,23 @@ module _ {A : Type 0} where
   unfolding allb
   all-allb t [] a = refl
   all-allb t (x ∷ xs) a = rw (a .0) (all-allb t xs (a .1))
+
+  pub allb-append : (t : A → Bool) (a b : List A) → allb t (a ++ b) ≡ (allb t a && allb t b)
+  unfolding allb
+  allb-append t [] b = refl
+  allb-append t (x ∷ a) b = rw (allb-append t a b, and-assoc)
+
+  pub allb-and : (s t : A → Bool) (l : List A) → allb (λ x. s x && t x) l ≡ (allb s l && allb t l)
+  unfolding allb
+  allb-and s t [] = refl
+  allb-and s t (x ∷ l) = rw (allb-and s t l) (swap (s x) (t x) (allb s l) (allb t l))
+
+  -- none that passes t passes s
+  pub allb-keep : (t s : A → Bool) (l : List A) → allb (λ x. not (t x && s x)) l ≡ allb (λ x. not (s x)) (keep t l)
+  unfolding allb keep
+  allb-keep t s [] = refl
+  allb-keep t s (x ∷ l) = rw (allb-keep t s l) (go (t x))
+    where
+      go : (c : Bool) → (not (c && s x) && allb (λ x. not (s x)) (keep t l)) ≡ allb (λ x. not (s x)) (cond c (x ∷ keep t l) (keep t l))
+      go true = refl
+      go false = refl

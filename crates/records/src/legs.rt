@@ -13,11 +13,21 @@ use crate::fields::u32_in;
 use crate::fields::u64_in;
 use crate::limits::RECORD_BYTES;
 
+// 'side': 1 long, 2 short
+pub const LONG: u8 = 1;
+
+pub const SHORT: u8 = 2;
+
+// 'type': 1 call, 2 put
+pub const CALL: u8 = 1;
+
+pub const PUT: u8 = 2;
+
 pub struct Leg {
     pub group: u16,
-    // 1 long, 2 short
+    // LONG or SHORT
     pub side: u8,
-    // the document's type: 1 call, 2 put
+    // the document's type, CALL or PUT
     pub right: u8,
     // 1 American, 2 European
     pub style: u8,

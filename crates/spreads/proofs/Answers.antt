@@ -21,8 +21,19 @@ use Rattle.records.proofs.OrderLaws.{first-then, first-stop, clear, unclear, pa
 use Rattle.spreads.specs.Spreads.{groupOf}
 use Rattle.spreads.specs.Strikes.{strikesOf, marginOf}
 use Rattle.spreads.specs.Calls.{listedAfter, strikesListed, marginsFrom}
-use Rattle.spreads.specs.Steps.{Placed}
+use Rattle.spreads.specs.Steps.{Checked}
 use Rattle.spreads.specs.declared.calls.Listed.the-variants.{Entries, Refused as Refused-listed}
+
+-- ---- one check after the other
+
+module _ (c : Check) (cs : List Check) where
+  pub first-holds : c .holds ≡ true → firstOf (c ∷ cs) ≡ firstOf cs
+  unfolding firstOf
+  first-holds h = rw h
+
+  pub first-fails : c .holds ≡ false → firstOf (c ∷ cs) ≡ Is (c .refusal)
+  unfolding firstOf
+  first-fails h = rw h
 
 -- ---- a table that was counted
 
@@ -35,21 +46,21 @@ counted-not Nothing n r e = let z : _≡_ {A = ℕ} 0 1 = cc in absurd (omega ar
 counted-not (Is q) n r e = cc
 
 module _ (xs : List ℕ) where
-  pub table-placed : (n : ℕ) → countedOf Placement xs ≡ Records n → Placed xs
+  pub table-checked : (n : ℕ) → countedOf Placement xs ≡ Records n → Checked xs
   unfolding countedOf
-  table-placed n e = counted-is (firstOf (tableChecks Placement xs)) _ n e
+  table-checked n e = counted-is (firstOf (tableChecks Placement xs)) _ n e
 
   module _ (cs : List Check) where
     pub table-then : (n : ℕ) → countedOf Placement xs ≡ Records n → firstOf (tableChecks Placement xs ++ cs) ≡ firstOf cs
-    table-then n e = first-then (tableChecks Placement xs) cs (table-placed n e)
+    table-then n e = first-then (tableChecks Placement xs) cs (table-checked n e)
 
     pub table-stop : (r : Refusal) → countedOf Placement xs ≡ Refused r → firstOf (tableChecks Placement xs ++ cs) ≡ Is r
     unfolding countedOf
     table-stop r e = first-stop (tableChecks Placement xs) cs r (counted-not (firstOf (tableChecks Placement xs)) _ r e)
 
     -- where the table's checks and others pass, the table passes
-    pub placed-first : firstOf (tableChecks Placement xs ++ cs) ≡ Nothing → Placed xs
-    placed-first e = unclear (tableChecks Placement xs) (pass-left (tableChecks Placement xs) cs (clear _ e))
+    pub checked-first : firstOf (tableChecks Placement xs ++ cs) ≡ Nothing → Checked xs
+    checked-first e = unclear (tableChecks Placement xs) (pass-left (tableChecks Placement xs) cs (clear _ e))
 
 -- ---- a call that lists n entries: its checks, and then 17 where there is no room
 

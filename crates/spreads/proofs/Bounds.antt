@@ -1,41 +1,41 @@
 -- How much legs within their ranges can be worth at a price that a strike can have, and how much a group can lose.
 use Prim.Native.Nat.{ℕ, _-_, _*_, _/_, _≤_, _<_}
 use mathlib.Core.Bool.{Bool}
-use mathlib.Core.List.{List, [], _∷_}
+use mathlib.Core.List.{List}
 use native.Mathlib.Nat.{mul-le-mul}
 use native.Mathlib.Omega.{arith}
 use lib.Dec.{eqb}
 use lib.ListN.{length}
-use Rattle.records.specs.Lists.{only, sum, most, All}
+use Rattle.records.specs.Lists.{only, sum, All}
 use Rattle.records.specs.Chunks.{chunkAt}
 use Rattle.records.specs.Legs.{isLong, isShort, isCall, isPut, legOf}
 use Rattle.records.specs.Tables.{tableChecks, fieldChecks, legsOf}
 use Rattle.records.specs.declared.legs.Leg.{Leg}
 use Rattle.records.specs.declared.tables.Kind.the-variants.{Placement}
-use Rattle.records.proofs.ListLaws.{only-le, all-map, all-keep, length-keep, sum-bound}
+use Rattle.records.proofs.ListLaws.{only-le, all-map, all-keep, length-keep, sum-bound, most-bound}
 use Rattle.records.proofs.OrderLaws.{clear, unclear}
 use Rattle.records.proofs.TableLaws.{record-good, good-ranges, Ranges, units-small, placement-ranges, length-legs, whole}
 use Rattle.spreads.specs.Prices.{intrinsic, value, longAt, shortAt, at, lossAt}
 use Rattle.spreads.specs.Strikes.{marginOf}
-use Rattle.spreads.specs.Spreads.{groupOf}
-use Rattle.spreads.specs.Steps.{Placed, top}
+use Rattle.spreads.specs.Spreads.{groupOf, groupIn}
+use Rattle.spreads.specs.Steps.{Checked, strikesEnd}
 use Rattle.spreads.proofs.StrikeSums.{margin-legs}
 
 -- ---- one leg
 
-intrinsic-small : (k : ℕ) (l : Leg) → Ranges 32 l → k < top → intrinsic 1 k l ≤ 100000000
+intrinsic-small : (k : ℕ) (l : Leg) → Ranges 32 l → k < strikesEnd → intrinsic 1 k l ≤ 100000000
 unfolding intrinsic
 intrinsic-small k l r h =
     omega (arith, only-le (isCall l) (k - 1 * l .strike), only-le (isPut l) (1 * l .strike - k), r .strike)
 
 -- at most 100,000,000 units of 100,000,000 mills
-pub worth-small : (k : ℕ) (l : Leg) → Ranges 32 l → k < top → value 1 (at k) l ≤ 10000000000000000
+pub worth-small : (k : ℕ) (l : Leg) → Ranges 32 l → k < strikesEnd → value 1 (at k) l ≤ 10000000000000000
 unfolding value
 worth-small k l r h = mul-le-mul (units-small 32 l r .1) (intrinsic-small k l r h)
 
 -- ---- many legs
 
-module _ (k : ℕ) (legs : List Leg) (r : All (Ranges 32) legs) (h : k < top) where
+module _ (k : ℕ) (legs : List Leg) (r : All (Ranges 32) legs) (h : k < strikesEnd) where
   side-bound : (side : Leg → Bool) → sum (λ l. only (side l) (value 1 (at k) l)) legs ≤ 10000000000000000 * length legs
   side-bound side =
       sum-bound _ 10000000000000000 legs
@@ -50,11 +50,6 @@ module _ (k : ℕ) (legs : List Leg) (r : All (Ranges 32) legs) (h : k < top) wh
   sides-small n = (omega (arith, side-bound isLong), omega (arith, side-bound isShort))
 
 -- ---- the margin
-
-most-bound : {A : Type 0} (f : A → ℕ) (b : ℕ) (l : List A) → All (λ x. f x ≤ b) l → most f l ≤ b
-unfolding most
-most-bound f b [] a = omega arith
-most-bound f b (x ∷ xs) a = omega (arith, a .0, most-bound f b xs (a .1))
 
 pub margin-bound : (legs : List Leg) → All (Ranges 32) legs → marginOf legs ≤ 10000000000000000 * length legs
 margin-bound legs r =
@@ -78,7 +73,7 @@ module _ (legs : List Leg) (ranges : All (Ranges 32) legs) (few : length legs �
 
 -- ---- the same of a checked table
 
-module _ (xs : List ℕ) (p : Placed xs) where
+module _ (xs : List ℕ) (p : Checked xs) where
   table-few : length (legsOf xs) ≤ 256
   unfolding tableChecks
   table-few = omega (arith, length-legs xs, whole Placement (length xs) (clear _ p .0) .1)
@@ -92,11 +87,11 @@ module _ (xs : List ℕ) (p : Placed xs) where
   leg-ranges i h = good-ranges 32 (chunkAt 32 xs i) (record-good Placement xs i (unclear (fieldChecks Placement xs) (clear _ p .1)) h)
 
   module _ (g : ℕ) where
-    pub group-ranges : All (Ranges 32) (groupOf g (legsOf xs))
+    pub group-ranges : All (Ranges 32) (groupIn xs g)
     group-ranges = legs-ranges (legsOf xs) table-ranges table-few g
 
-    pub group-few : length (groupOf g (legsOf xs)) ≤ 256
+    pub group-few : length (groupIn xs g) ≤ 256
     group-few = legs-few (legsOf xs) table-ranges table-few g
 
-    pub margin-small : marginOf (groupOf g (legsOf xs)) ≤ 2560000000000000000
+    pub margin-small : marginOf (groupIn xs g) ≤ 2560000000000000000
     margin-small = legs-margin (legsOf xs) table-ranges table-few g

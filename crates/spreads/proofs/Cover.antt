@@ -91,9 +91,9 @@ module _ (legs : List Leg) (calls : unitsIn isLong isCall legs ≡ unitsIn isSho
       (front (λ a b. b ≤ a) (λ x. n < x) (λ l. d * l .strike) (λ a b. or-le b a) (λ a b c h k. le-trans k h) (λ x. decLt n x) legs at-strikes)
 
 -- with less, the loss at one of the group's strikes is not covered
-pub least : (legs : List Leg) (m : ℕ) → m < marginOf legs
+pub nothing-less : (legs : List Leg) (m : ℕ) → m < marginOf legs
     → (x : Leg) × List·Memᴰ x legs × (longAt 1 (at (x .strike)) legs + m < shortAt 1 (at (x .strike)) legs)
 unfolding lossAt
-least legs m h =
+nothing-less legs m h =
     let r = most-hit (λ l. lossAt legs (l .strike)) legs m (omega (arith, margin-legs legs)) in
     (r .0, r .1, omega (arith, r .2))

@@ -12,7 +12,7 @@ use Rattle.records.specs.Tables.{legsOf}
 use Rattle.records.specs.declared.legs.Leg.{Leg}
 use Rattle.records.proofs.ListLaws.{keep-in, keep-out, keep-none}
 use Rattle.records.proofs.ChunkLaws.{rowsFrom, rows-all, rows-next, rows-none}
-use Rattle.spreads.specs.Spreads.{groupOf}
+use Rattle.spreads.specs.Spreads.{groupOf, groupIn}
 
 -- ---- what is left of the group from record i on
 
@@ -39,7 +39,7 @@ module _ {A : Type 0} where
   pub record Folding (step : A → Leg → A) (none : A) (g : ℕ) (xs : List ℕ) (n i : ℕ) (state : A) : Type 0 where
     pub all : n ≡ length xs / 32
     pub many : i ≤ n
-    pub is : foldl step state (rest g xs i) ≡ foldl step none (groupOf g (legsOf xs))
+    pub is : foldl step state (rest g xs i) ≡ foldl step none (groupIn xs g)
 
   pub fold-none : {step : A → Leg → A} {none : A} {g : ℕ} {xs : List ℕ} {state : A} → state ≡ none
       → Folding step none g xs (length xs / 32) 0 state
@@ -48,7 +48,7 @@ module _ {A : Type 0} where
       rw e (record { all = omega arith; many = omega arith; is = ap (λ (ls : List Leg). foldl step none (groupOf g ls)) (rows-all legOf xs) })
 
   module _ {step : A → Leg → A} {none : A} {g : ℕ} {xs : List ℕ} {n i : ℕ} {state : A} (f : Folding step none g xs n i state) where
-    pub fold-done : n ≤ i → state ≡ foldl step none (groupOf g (legsOf xs))
+    pub fold-done : n ≤ i → state ≡ foldl step none (groupIn xs g)
     fold-done h = ap (foldl step state) (sym (rest-none g xs i (omega arith))) ∙ f .is
 
     module _ (h : i < n) {l : Leg} (e : l ≡ legOf (chunkAt 32 xs i)) where

@@ -1,10 +1,9 @@
 -- What is gathered of a group, leg by leg, is what document 01's rule asks about.
 use Prim.Native.Nat.{ℕ, _+_, _≤_, min, max}
 use mathlib.Core.Path.{_≡_, refl, _∙_}
-use mathlib.Core.Bool.{Bool, true, false, not, _&&_, cond}
+use mathlib.Core.Bool.{Bool, true, false, not, _&&_, cond, Bool·not-not}
 use mathlib.Core.List.{List, [], _∷_, foldl}
 use native.Mathlib.Omega.{arith}
-use lib.Dec.{leb}
 use lib.ListN.{length}
 use Rattle.records.specs.Lists.{only, sum, most, least, All}
 use Rattle.records.specs.Legs.{isLong, isShort, isCall, isPut, units, unitsOf, plusUnits}
@@ -12,11 +11,13 @@ use Rattle.records.specs.declared.counts.Units.{Units}
 use Rattle.records.specs.declared.legs.Leg.{Leg}
 use Rattle.records.proofs.ListLaws.{only-le, all-map, sum-bound}
 use Rattle.records.proofs.TableLaws.{Ranges, units-small}
-use Rattle.spreads.specs.Spreads.{oneOf, unitsIn, latestShort, earliestLong, never}
-use Rattle.spreads.specs.Gathered.{withFirsts, withUnits, withRight, withExpiry, withLife, withLeg, noFacts, gathered}
-use Rattle.spreads.specs.declared.facts.Sides.{Sides}
-use Rattle.spreads.specs.declared.facts.Lives.{Lives}
+use Rattle.spreads.specs.Spreads.{groupIn, noneDoubled, unitsIn, latestShort, earliestLong, never, spreadChecks}
+use Rattle.spreads.specs.Gathered.{withFirsts, withUnits, withRight, withExpiry, withLife, withLeg, noFacts, gathered, factChecks}
+use Rattle.spreads.specs.Steps.{Checked}
+use Rattle.spreads.specs.declared.parts.Sides.{Sides}
+use Rattle.spreads.specs.declared.parts.Lives.{Lives}
 use Rattle.spreads.specs.declared.facts.Facts.{Facts}
+use Rattle.spreads.proofs.Bounds.{group-ranges, group-few}
 use Rattle.spreads.proofs.FirstsLaws.{firsts-are}
 
 -- ---- each part of the facts is gathered by itself
@@ -87,52 +88,34 @@ early-one : (t : Bool) (v e r : ℕ) → v ≤ never
 early-one true v e r h = (omega arith, omega arith)
 early-one false v e r h = (omega arith, omega arith)
 
-lives-after : (v : Lives) (legs : List Leg) → v .earliest ≤ never
-    → (foldl withLife v legs .latest ≡ max (v .latest) (latestShort legs))
-    × (foldl withLife v legs .earliest ≡ min (v .earliest) (earliestLong legs))
+lives-after : (v : Lives) (legs : List Leg) → v .«earliest_long» ≤ never
+    → (foldl withLife v legs .«latest_short» ≡ max (v .«latest_short») (latestShort legs))
+    × (foldl withLife v legs .«earliest_long» ≡ min (v .«earliest_long») (earliestLong legs))
     × (earliestLong legs ≤ never)
 unfolding withExpiry latestShort earliestLong most least
 lives-after v [] h = (omega arith, omega arith, omega arith)
 lives-after v (l ∷ legs) h =
-    let q = early-one (isLong l) (v .earliest) (l .expiry) (earliestLong legs) h in
+    let q = early-one (isLong l) (v .«earliest_long») (l .expiry) (earliestLong legs) h in
     let r = lives-after (withLife v l) legs (q .0) in
-    (r .0 ∙ late-one (isShort l) (v .latest) (l .expiry) (latestShort legs), r .1 ∙ q .1, omega (arith, r .2))
+    (r .0 ∙ late-one (isShort l) (v .«latest_short») (l .expiry) (latestShort legs), r .1 ∙ q .1, omega (arith, r .2))
 
 lives-are : (legs : List Leg)
-    → (foldl withLife (noFacts .lives) legs .latest ≡ latestShort legs) × (foldl withLife (noFacts .lives) legs .earliest ≡ earliestLong legs)
+    → (foldl withLife (noFacts .lives) legs .«latest_short» ≡ latestShort legs) × (foldl withLife (noFacts .lives) legs .«earliest_long» ≡ earliestLong legs)
 lives-are legs = let v = lives-after (noFacts .lives) legs (omega arith) in (omega arith, omega arith)
 
 -- ---- all of them
 
-pub record FactsOf (legs : List Leg) (f : Facts) : Type 0 where
-  pub some : f .firsts .some ≡ leb 1 (length legs)
-  pub underlyings : f .firsts .underlyings ≡ not (oneOf (λ l. l .underlying) legs)
-  pub styles : f .firsts .styles ≡ not (oneOf (λ l. l .style) legs)
-  pub markets : f .firsts .markets ≡ not (oneOf (λ l. l .market) legs)
-  pub long-calls : f .calls .long .0 ≡ unitsIn isLong isCall legs
-  pub short-calls : f .calls .short .0 ≡ unitsIn isShort isCall legs
-  pub long-puts : f .puts .long .0 ≡ unitsIn isLong isPut legs
-  pub short-puts : f .puts .short .0 ≡ unitsIn isShort isPut legs
-  pub latest : f .lives .latest ≡ latestShort legs
-  pub earliest : f .lives .earliest ≡ earliestLong legs
-
-pub facts-are : (legs : List Leg) → All (Ranges 32) legs → length legs ≤ 256 → FactsOf legs (gathered legs)
-unfolding gathered
-facts-are legs r few =
+facts-checks : (g : ℕ) (legs : List Leg) → All (Ranges 32) legs → length legs ≤ 256
+    → factChecks g (gathered legs) (not (noneDoubled legs)) ≡ spreadChecks g legs
+unfolding gathered factChecks spreadChecks
+facts-checks g legs r few =
     let f = firsts-are legs in
     let c = units-are isCall legs r few in
     let p = units-are isPut legs r few in
     let v = lives-are legs in
-    rw (parts noFacts legs)
-    (record {
-      some = f .0;
-      underlyings = f .1;
-      styles = f .2;
-      markets = f .3;
-      long-calls = c .0;
-      short-calls = c .1;
-      long-puts = p .0;
-      short-puts = p .1;
-      latest = v .0;
-      earliest = v .1;
-    })
+    rw (parts noFacts legs) (simp (f .0, f .1, f .2, f .3, c .0, c .1, p .0, p .1, v .0, v .1, Bool·not-not))
+
+-- what is found of group g of a checked placement is refused just as its legs are
+pub found-checks : (g : ℕ) (xs : List ℕ) → Checked xs → (f : Facts) (found : Bool) → f ≡ gathered (groupIn xs g)
+    → found ≡ not (noneDoubled (groupIn xs g)) → factChecks g f found ≡ spreadChecks g (groupIn xs g)
+found-checks g xs c f found e d = rw (e, d) (facts-checks g (groupIn xs g) (group-ranges xs c g) (group-few xs c g))

@@ -8,18 +8,16 @@ pub mod Bench
 pub mod Unique
 -- what these rest on
 pub mod Signed
-pub mod Placing
+pub mod Inserting
 pub mod StrikeSums
 pub mod Front
 pub mod Payoffs
 -- the steps of the code: the rule
 pub mod Folds
 pub mod SearchLaws
-pub mod TestLaws
 pub mod PairLaws
 pub mod FirstsLaws
 pub mod GatheredLaws
-pub mod FaultLaws
 -- the walk up the strikes
 pub mod Worths
 pub mod Ascending

@@ -1,4 +1,4 @@
--- Joining two balanced groups never costs more than the two by themselves.
+-- Joining two groups that are spreads never costs more than the two by themselves.
 use Prim.Native.Nat.{ℕ, _+_, _≤_}
 use mathlib.Core.Path.{_≡_, refl}
 use mathlib.Core.Bool.{Bool, true, false, _||_}
@@ -7,14 +7,14 @@ use native.Mathlib.Decide.{decLe}
 use native.Mathlib.Omega.{arith}
 use lib.Dec.{eqb}
 use borrow.Author.Tests.{eqb-true}
-use Rattle.records.specs.Lists.{only, sum, keep}
+use Rattle.records.specs.Lists.{only, sum}
 use Rattle.records.specs.Legs.{isLong, isShort}
 use Rattle.records.specs.declared.legs.Leg.{Leg}
 use Rattle.records.proofs.ListLaws.{every, sum-keep, sum-lin}
 use Rattle.spreads.specs.Prices.{value, longAt, shortAt, at}
 use Rattle.spreads.specs.Strikes.{marginOf}
-use Rattle.spreads.specs.Spreads.{groupOf, Spread}
-use Rattle.spreads.proofs.Cover.{cover, least}
+use Rattle.spreads.specs.Spreads.{groupOf, merged, Spread}
+use Rattle.spreads.proofs.Cover.{cover, nothing-less}
 
 -- j is any list whose sums are those of a and b together
 merge : (g k : ℕ) (a b j : List Leg) → Spread g a → Spread k b → ((f : Leg → ℕ) → sum f j ≡ sum f a + sum f b)
@@ -24,7 +24,7 @@ merge g k a b j sa sb add =
     elim (decLe (marginOf j) (marginOf a + marginOf b)) [
       | yes h ↦ h
       | no h ↦
-          let r = least j (marginOf a + marginOf b) (omega arith) in
+          let r = nothing-less j (marginOf a + marginOf b) (omega arith) in
           let n = r .0 .strike in
           absurd (omega (
             arith,
@@ -36,20 +36,16 @@ merge g k a b j sa sb add =
           ))
     ]
 
--- the legs of groups g and k taken together, in the placement's order
-unfoldable pub joined : ℕ → ℕ → List Leg → List Leg
-joined g k p = keep (λ l. eqb (l .group) g || eqb (l .group) k) p
-
 either : (a b : Bool) (x : ℕ) → (a ≡ true → b ≡ true → ⊥) → only (a || b) x ≡ only a x + only b x
 either true true x n = absurd (n refl refl)
 either true false x n = omega arith
 either false b x n = omega arith
 
 pub merge-groups : (g k : ℕ) (p : List Leg) → (g ≡ k → ⊥) → Spread g (groupOf g p) → Spread k (groupOf k p)
-    → marginOf (joined g k p) ≤ marginOf (groupOf g p) + marginOf (groupOf k p)
-unfolding joined groupOf
+    → marginOf (merged g k p) ≤ marginOf (groupOf g p) + marginOf (groupOf k p)
+unfolding merged groupOf
 merge-groups g k p ne sg sk =
-    merge g k (groupOf g p) (groupOf k p) (joined g k p) sg sk
+    merge g k (groupOf g p) (groupOf k p) (merged g k p) sg sk
     (λ f. omega (
       arith,
       sum-keep f (λ l. eqb (l .group) g) p,

@@ -13,14 +13,18 @@ use Rattle.records.specs.Lists.{keep, allb}
 use Rattle.records.specs.Legs.{legOf}
 use Rattle.records.specs.Tables.{legsOf}
 use Rattle.records.specs.declared.legs.Leg.{Leg}
+use Rattle.records.proofs.ListLaws.{allb-append, allb-and, allb-keep, keep-append}
 use Rattle.records.proofs.ChunkLaws.{chunks-all, chunks-none, chunks-more}
-use Rattle.spreads.specs.Spreads.{groupOf, sameSeries, doubled, noneDoubled}
-use Rattle.spreads.specs.Search.{clash, legsBetween, pairWith, firstPair}
+use Rattle.spreads.specs.Spreads.{groupOf, groupIn, sameSeries, doubled, noneDoubled}
+use Rattle.spreads.specs.Search.{clash, legsBetween, pairWith, firstDoubled}
 use Rattle.spreads.specs.declared.pairs.Pair.{Pair}
 use Rattle.spreads.specs.declared.pairs.Pair.the-variants.{At, Nothing}
-use Rattle.spreads.proofs.TestLaws.{neither, allb-append, allb-and, allb-keep, keep-append}
 
 -- ---- one leg more
+
+neither : (a b : Bool) → not (a || b) ≡ (not a && not b)
+neither true b = refl
+neither false b = refl
 
 -- a leg is not long and short
 self-clear : (x : Leg) → not (doubled x x) ≡ true
@@ -102,18 +106,18 @@ module _ (g : ℕ) (xs : List ℕ) where
 
   -- m places from j on are clear, and the legs before them, just where all of them are
   search-clear : (m j : ℕ)
-      → (isClear (firstPair g xs j m) && noneDoubled (groupOf g (legsBetween xs 0 j))) ≡ noneDoubled (groupOf g (legsBetween xs 0 (j + m)))
-  unfolding firstPair
+      → (isClear (firstDoubled g xs j m) && noneDoubled (groupOf g (legsBetween xs 0 j))) ≡ noneDoubled (groupOf g (legsBetween xs 0 (j + m)))
+  unfolding firstDoubled
   search-clear zero j = rw add-zero
   search-clear (suc m) j =
       let k : j + suc m ≡ j + 1 + m = omega arith in
-      rw k (search-more (legOf (chunkAt 32 xs j)) j (legsBetween xs 0 j) (firstPair g xs (j + 1) m) _ (rw (legs-more j) at (search-clear m (j + 1))))
+      rw k (search-more (legOf (chunkAt 32 xs j)) j (legsBetween xs 0 j) (firstDoubled g xs (j + 1) m) _ (rw (legs-more j) at (search-clear m (j + 1))))
 
   empty-clear : noneDoubled (groupOf g (legsBetween xs 0 0)) ≡ true
   unfolding groupOf keep noneDoubled allb
   empty-clear = rw (chunks-none 32 0 0 xs (omega arith))
 
   -- the search finds no pair just where no series of the group is both long and short
-  pub clear-is : isClear (firstPair g xs 0 (length xs / 32)) ≡ noneDoubled (groupOf g (legsOf xs))
+  pub clear-is : isClear (firstDoubled g xs 0 (length xs / 32)) ≡ noneDoubled (groupIn xs g)
   unfolding legsOf
   clear-is = rw (empty-clear, and-true, zero-add, chunks-all 32 (length xs / 32) xs) at (search-clear (length xs / 32) 0)

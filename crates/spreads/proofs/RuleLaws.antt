@@ -18,63 +18,63 @@ use Rattle.spreads.specs.Spreads.{oneOf, doubled, noneDoubled, Spread, s
 
 -- ---- each test and its fact
 
-one-value : (field : Leg → ℕ) (legs : List Leg) → oneOf field legs ≡ true → (u : ℕ) × All (λ l. field l ≡ u) legs
+one-to-value : (field : Leg → ℕ) (legs : List Leg) → oneOf field legs ≡ true → (u : ℕ) × All (λ l. field l ≡ u) legs
 unfolding oneOf
-one-value field [] e = (0, tt)
-one-value field (l ∷ ls) e = (field l, (refl, all-map ls (λ k q. eqb-true (field k) (field l) q) (allb-all _ ls e)))
+one-to-value field [] e = (0, tt)
+one-to-value field (l ∷ ls) e = (field l, (refl, all-map ls (λ k q. eqb-true (field k) (field l) q) (allb-all _ ls e)))
 
-value-one : (field : Leg → ℕ) (legs : List Leg) (u : ℕ) → All (λ l. field l ≡ u) legs → oneOf field legs ≡ true
+value-to-one : (field : Leg → ℕ) (legs : List Leg) (u : ℕ) → All (λ l. field l ≡ u) legs → oneOf field legs ≡ true
 unfolding oneOf
-value-one field [] u a = refl
-value-one field (l ∷ ls) u a = all-allb _ ls (all-map ls (λ k q. eq-eqb (field k) (field l) (q ∙ sym (a .0))) (a .1))
+value-to-one field [] u a = refl
+value-to-one field (l ∷ ls) u a = all-allb _ ls (all-map ls (λ k q. eq-eqb (field k) (field l) (q ∙ sym (a .0))) (a .1))
 
-none-series : (legs : List Leg) → noneDoubled legs ≡ true → All (λ a. All (λ b. doubled a b ≡ false) legs) legs
+none-to-series : (legs : List Leg) → noneDoubled legs ≡ true → All (λ a. All (λ b. doubled a b ≡ false) legs) legs
 unfolding noneDoubled
-none-series legs e =
+none-to-series legs e =
     all-map legs (λ a q. all-map legs (λ b r. not-true (doubled a b) r) (allb-all (λ b. not (doubled a b)) legs q))
     (allb-all (λ a. allb (λ b. not (doubled a b)) legs) legs e)
 
-series-none : (legs : List Leg) → All (λ a. All (λ b. doubled a b ≡ false) legs) legs → noneDoubled legs ≡ true
+series-to-none : (legs : List Leg) → All (λ a. All (λ b. doubled a b ≡ false) legs) legs → noneDoubled legs ≡ true
 unfolding noneDoubled
-series-none legs e = all-allb _ legs (all-map legs (λ a q. all-allb (λ b. not (doubled a b)) legs (all-map legs (λ b r. ap not r) q)) e)
+series-to-none legs e = all-allb _ legs (all-map legs (λ a q. all-allb (λ b. not (doubled a b)) legs (all-map legs (λ b r. ap not r) q)) e)
 
 -- ---- all of them
 
-pub pass-spread : (g : ℕ) (legs : List Leg) → Pass (spreadChecks g legs) → Spread g legs
+pub checks-to-spread : (g : ℕ) (legs : List Leg) → Pass (spreadChecks g legs) → Spread g legs
 unfolding spreadChecks
-pass-spread g legs p =
+checks-to-spread g legs p =
     let (six, (seven, (eight, (nine, (ten, (eleven, (twelve, (thirteen, end)))))))) = p in
     let n = and-eq-true-iff (within 1 32 g) (leb 1 (length legs)) .0 six in
     record {
       numbered = within-true 1 32 g (n .0);
       leg = leb-true 1 (length legs) (n .1);
-      underlying = one-value (λ l. l .underlying) legs seven;
-      style = one-value (λ l. l .style) legs eight;
-      market = one-value (λ l. l .market) legs nine;
-      series = none-series legs ten;
+      underlying = one-to-value (λ l. l .underlying) legs seven;
+      style = one-to-value (λ l. l .style) legs eight;
+      market = one-to-value (λ l. l .market) legs nine;
+      series = none-to-series legs ten;
       calls = eqb-true _ _ eleven;
       puts = eqb-true _ _ twelve;
       lives = leb-true _ _ thirteen;
     }
 
-pub spread-pass : (g : ℕ) (legs : List Leg) → Spread g legs → Pass (spreadChecks g legs)
+pub spread-to-checks : (g : ℕ) (legs : List Leg) → Spread g legs → Pass (spreadChecks g legs)
 unfolding spreadChecks
-spread-pass g legs s = (
+spread-to-checks g legs s = (
   rw (le-leb 1 g (s .numbered .0), le-leb g 32 (s .numbered .1), le-leb 1 (length legs) (s .leg)) refl,
   (
-    value-one _ legs _ (s .underlying .1),
+    value-to-one _ legs _ (s .underlying .1),
     (
-      value-one _ legs _ (s .style .1),
+      value-to-one _ legs _ (s .style .1),
       (
-        value-one _ legs _ (s .market .1),
-        (series-none legs (s .series), (eq-eqb _ _ (s .calls), (eq-eqb _ _ (s .puts), (le-leb _ _ (s .lives), tt)))),
+        value-to-one _ legs _ (s .market .1),
+        (series-to-none legs (s .series), (eq-eqb _ _ (s .calls), (eq-eqb _ _ (s .puts), (le-leb _ _ (s .lives), tt)))),
       ),
     ),
   ),
 )
 
-pub spread-passes : (g : ℕ) (legs : List Leg) → Spread g legs → firstOf (spreadChecks g legs) ≡ Nothing
-spread-passes g legs s = unclear (spreadChecks g legs) (spread-pass g legs s)
+pub spread-to-no-refusal : (g : ℕ) (legs : List Leg) → Spread g legs → firstOf (spreadChecks g legs) ≡ Nothing
+spread-to-no-refusal g legs s = unclear (spreadChecks g legs) (spread-to-checks g legs s)
 
-pub passes-spread : (g : ℕ) (legs : List Leg) → firstOf (spreadChecks g legs) ≡ Nothing → Spread g legs
-passes-spread g legs e = pass-spread g legs (clear (spreadChecks g legs) e)
+pub no-refusal-to-spread : (g : ℕ) (legs : List Leg) → firstOf (spreadChecks g legs) ≡ Nothing → Spread g legs
+no-refusal-to-spread g legs e = checks-to-spread g legs (clear (spreadChecks g legs) e)

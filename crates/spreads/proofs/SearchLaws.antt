@@ -9,7 +9,7 @@ use Rattle.records.specs.Chunks.{chunkAt}
 use Rattle.records.specs.Legs.{legOf}
 use Rattle.records.specs.declared.legs.Leg.{Leg}
 use Rattle.records.proofs.ChunkLaws.{chunks-step, chunks-none}
-use Rattle.spreads.specs.Search.{clash, legsBetween, pairWith, firstPair}
+use Rattle.spreads.specs.Search.{clash, legsBetween, pairWith, firstDoubled}
 use Rattle.spreads.specs.declared.pairs.Pair.{Pair}
 use Rattle.spreads.specs.declared.pairs.Pair.the-variants.{At, Nothing}
 
@@ -29,22 +29,22 @@ module _ (g : ℕ) (xs : List ℕ) where
   -- ---- the later leg
 
   module _ (n j : ℕ) where
-    pub pair-end : n ≤ j → firstPair g xs j (n - j) ≡ Nothing
-    unfolding firstPair
+    pub pair-end : n ≤ j → firstDoubled g xs j (n - j) ≡ Nothing
+    unfolding firstDoubled
     pair-end h =
         let e : n - j ≡ 0 = omega arith in
         rw e
 
     module _ (x : Leg) (h : j < n) (e : x ≡ legOf (chunkAt 32 xs j)) where
       pub pair-in : x .group ≡ g
-          → firstPair g xs j (n - j) ≡ pairWith g x j 0 (legsBetween xs 0 j) (firstPair g xs (j + 1) (n - (j + 1)))
-      unfolding firstPair
+          → firstDoubled g xs j (n - j) ≡ pairWith g x j 0 (legsBetween xs 0 j) (firstDoubled g xs (j + 1) (n - (j + 1)))
+      unfolding firstDoubled
       pair-in p =
           let k : n - j ≡ suc (n - (j + 1)) = omega arith in
           rw (k, ← e, eq-eqb (x .group) g p)
 
-      pub pair-out : (x .group ≡ g → ⊥) → firstPair g xs j (n - j) ≡ firstPair g xs (j + 1) (n - (j + 1))
-      unfolding firstPair
+      pub pair-out : (x .group ≡ g → ⊥) → firstDoubled g xs j (n - j) ≡ firstDoubled g xs (j + 1) (n - (j + 1))
+      unfolding firstDoubled
       pair-out p =
           let k : n - j ≡ suc (n - (j + 1)) = omega arith in
           rw (k, ← e, ne-eqb (x .group) g p)

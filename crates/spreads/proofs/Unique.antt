@@ -8,7 +8,7 @@ use lib.ListN.{length}
 use Rattle.records.specs.Tables.{legsOf}
 use Rattle.records.proofs.Unique.{one-outcome}
 use Rattle.spreads.specs.Strikes.{strikesOf, netsOf}
-use Rattle.spreads.specs.Spreads.{groupOf}
+use Rattle.spreads.specs.Spreads.{groupIn}
 use Rattle.spreads.specs.Calls.{marginCall, worksheetCall, listLeft, marginsFrom, marginsCall}
 use Rattle.spreads.specs.declared.calls.Due.{Due}
 use Rattle.spreads.specs.declared.calls.Listed.{Listed}
@@ -25,13 +25,13 @@ module _ (placement : List ℕ) (g : ℕ) (strikes : List ℕ) (nets : List ℤ)
   worksheet-unique : r ≡ s
   worksheet-unique = one-outcome p q
 
-  strikes-unique : (a b : List ℕ) → a ≡ listLeft r (strikesOf (groupOf g (legsOf placement))) strikes
-      → b ≡ listLeft s (strikesOf (groupOf g (legsOf placement))) strikes → a ≡ b
-  strikes-unique a b = left-unique (strikesOf (groupOf g (legsOf placement))) strikes r s a b worksheet-unique
+  strikes-unique : (a b : List ℕ) → a ≡ listLeft r (strikesOf (groupIn placement g)) strikes
+      → b ≡ listLeft s (strikesOf (groupIn placement g)) strikes → a ≡ b
+  strikes-unique a b = left-unique (strikesOf (groupIn placement g)) strikes r s a b worksheet-unique
 
-  nets-unique : (a b : List ℤ) → a ≡ listLeft r (netsOf (groupOf g (legsOf placement))) nets
-      → b ≡ listLeft s (netsOf (groupOf g (legsOf placement))) nets → a ≡ b
-  nets-unique a b = left-unique (netsOf (groupOf g (legsOf placement))) nets r s a b worksheet-unique
+  nets-unique : (a b : List ℤ) → a ≡ listLeft r (netsOf (groupIn placement g)) nets
+      → b ≡ listLeft s (netsOf (groupIn placement g)) nets → a ≡ b
+  nets-unique a b = left-unique (netsOf (groupIn placement g)) nets r s a b worksheet-unique
 
 module _ (placement : List ℕ) (n : ℕ) (out : List ℤ) (r s : Listed)
     (p : r ≡ marginsCall placement n (length out)) (q : s ≡ marginsCall placement n (length out)) where

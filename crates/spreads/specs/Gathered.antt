@@ -2,14 +2,16 @@
 use Prim.Native.Nat.{ℕ, min, max}
 use mathlib.Core.Bool.{Bool, true, false, not, _&&_, _||_, cond}
 use mathlib.Core.List.{List, foldl}
-use lib.Dec.{eqb}
+use lib.Dec.{leb, eqb}
+use Rattle.records.specs.Dates.{within}
 use Rattle.records.specs.Legs.{unitsOf, noUnits, plusUnits, isCall, isPut}
+use Rattle.records.specs.Order.{Check}
 use Rattle.records.specs.declared.counts.Units.{Units}
 use Rattle.records.specs.declared.legs.Leg.{Leg}
-use Rattle.spreads.specs.Spreads.{never}
-use Rattle.spreads.specs.declared.facts.Firsts.{Firsts}
-use Rattle.spreads.specs.declared.facts.Sides.{Sides}
-use Rattle.spreads.specs.declared.facts.Lives.{Lives}
+use Rattle.spreads.specs.Spreads.{never, sixToThirteen}
+use Rattle.spreads.specs.declared.parts.Firsts.{Firsts}
+use Rattle.spreads.specs.declared.parts.Sides.{Sides}
+use Rattle.spreads.specs.declared.parts.Lives.{Lives}
 use Rattle.spreads.specs.declared.facts.Facts.{Facts}
 
 -- ---- each part of the facts
@@ -17,24 +19,24 @@ use Rattle.spreads.specs.declared.facts.Facts.{Facts}
 -- the first leg is kept, and of each later one whether it differs
 unfoldable pub withFirsts : Firsts → Leg → Firsts
 withFirsts f l =
-    cond (f .some)
+    cond (f .any)
     (record {
-      some = f .some;
+      any = f .any;
       underlying = f .underlying;
       style = f .style;
       market = f .market;
-      underlyings = f .underlyings || not (eqb (l .underlying) (f .underlying));
-      styles = f .styles || not (eqb (l .style) (f .style));
-      markets = f .markets || not (eqb (l .market) (f .market));
+      «underlyings_differ» = f .«underlyings_differ» || not (eqb (l .underlying) (f .underlying));
+      «styles_differ» = f .«styles_differ» || not (eqb (l .style) (f .style));
+      «markets_differ» = f .«markets_differ» || not (eqb (l .market) (f .market));
     })
     (record {
-      some = true;
+      any = true;
       underlying = l .underlying;
       style = l .style;
       market = l .market;
-      underlyings = f .underlyings;
-      styles = f .styles;
-      markets = f .markets;
+      «underlyings_differ» = f .«underlyings_differ»;
+      «styles_differ» = f .«styles_differ»;
+      «markets_differ» = f .«markets_differ»;
     })
 
 -- with a leg's units, where it is of this right
@@ -52,8 +54,8 @@ isBalanced s = eqb (s .long .0) (s .short .0)
 unfoldable pub withExpiry : Lives → ℕ → ℕ → Lives
 withExpiry s side expiry =
     record {
-      latest = cond (eqb side 2) (max (s .latest) expiry) (s .latest);
-      earliest = cond (eqb side 1) (min (s .earliest) expiry) (s .earliest);
+      «latest_short» = cond (eqb side 2) (max (s .«latest_short») expiry) (s .«latest_short»);
+      «earliest_long» = cond (eqb side 1) (min (s .«earliest_long») expiry) (s .«earliest_long»);
     }
 
 -- ---- one leg more
@@ -76,11 +78,27 @@ withLeg f l =
 abbrev pub noFacts : Facts
 noFacts =
     record {
-      firsts = record { some = false; underlying = 0; style = 0; market = 0; underlyings = false; styles = false; markets = false };
+      firsts = record { any = false; underlying = 0; style = 0; market = 0; «underlyings_differ» = false; «styles_differ» = false; «markets_differ» = false };
       calls = record { long = noUnits; short = noUnits };
       puts = record { long = noUnits; short = noUnits };
-      lives = record { latest = 0; earliest = never };
+      lives = record { «latest_short» = 0; «earliest_long» = never };
     }
 
 unfoldable pub gathered : List Leg → Facts
 gathered legs = foldl withLeg noFacts legs
+
+-- ---- what the facts say to 6 to 13
+
+unfoldable pub factChecks : ℕ → Facts → Bool → List Check
+factChecks g f doubled =
+    sixToThirteen g
+    (record {
+      leg = within 1 32 g && f .firsts .any;
+      underlying = not (f .firsts .«underlyings_differ»);
+      style = not (f .firsts .«styles_differ»);
+      market = not (f .firsts .«markets_differ»);
+      series = not doubled;
+      calls = isBalanced (f .calls);
+      puts = isBalanced (f .puts);
+      lives = leb (f .lives .«latest_short») (f .lives .«earliest_long»);
+    })

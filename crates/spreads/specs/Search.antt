@@ -24,9 +24,9 @@ pairWith g x j i [] otherwise = otherwise
 pairWith g x j i (y ∷ ys) otherwise = cond (clash g x y) (At j i) (pairWith g x j (i + 1) ys otherwise)
 
 -- of the m places from j on, the first leg of group g that clashes with an earlier one
-unfoldable pub firstPair : ℕ → List ℕ → ℕ → ℕ → Pair
-firstPair g xs j zero = Nothing
-firstPair g xs j (suc m) =
+unfoldable pub firstDoubled : ℕ → List ℕ → ℕ → ℕ → Pair
+firstDoubled g xs j zero = Nothing
+firstDoubled g xs j (suc m) =
     cond (eqb (legOf (chunkAt 32 xs j) .group) g)
-    (pairWith g (legOf (chunkAt 32 xs j)) j 0 (legsBetween xs 0 j) (firstPair g xs (j + 1) m))
-    (firstPair g xs (j + 1) m)
+    (pairWith g (legOf (chunkAt 32 xs j)) j 0 (legsBetween xs 0 j) (firstDoubled g xs (j + 1) m))
+    (firstDoubled g xs (j + 1) m)

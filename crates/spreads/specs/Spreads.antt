@@ -1,7 +1,7 @@
 -- 'The legs of group g are the placement records with that group. They are a spread when all hold'.
 use Prim.Native.Nat.{ℕ, _≤_}
 use mathlib.Core.Path.{_≡_}
-use mathlib.Core.Bool.{Bool, true, false, not, _&&_, cond}
+use mathlib.Core.Bool.{Bool, true, false, not, _&&_, _||_, cond}
 use mathlib.Core.List.{List, [], _∷_}
 use lib.Dec.{leb, eqb}
 use lib.ListN.{length}
@@ -9,10 +9,21 @@ use Rattle.records.specs.Lists.{only, sum, most, least, keep, allb, All}
 use Rattle.records.specs.Dates.{within}
 use Rattle.records.specs.Legs.{isLong, isShort, isCall, isPut, units}
 use Rattle.records.specs.Order.{Check, ask}
+use Rattle.records.specs.Tables.{legsOf}
 use Rattle.records.specs.declared.legs.Leg.{Leg}
 
 unfoldable pub groupOf : ℕ → List Leg → List Leg
 groupOf g legs = keep (λ l. eqb (l .group) g) legs
+
+-- group g of a placement table
+abbrev pub groupIn : List ℕ → ℕ → List Leg
+groupIn xs g = groupOf g (legsOf xs)
+
+-- the legs of groups g and k taken together, in the placement's order
+unfoldable pub merged : ℕ → ℕ → List Leg → List Leg
+merged g k legs = keep (λ l. eqb (l .group) g || eqb (l .group) k) legs
+
+-- ---- what the rule asks about
 
 -- 'one underlying, one style, one market': one value of a field in all legs
 unfoldable pub oneOf : (Leg → ℕ) → List Leg → Bool
@@ -43,31 +54,64 @@ latestShort legs = most (λ l. only (isShort l) (l .expiry)) legs
 abbrev pub never : ℕ
 never = 99999999
 
--- 'the earliest long expiry'; after every date where there is no long
+-- 'the earliest long expiry' of legs that passed 4, whose expiries are below `never`; `never` where there is no long
 unfoldable pub earliestLong : List Leg → ℕ
 earliestLong legs = least never (λ l. cond (isLong l) (l .expiry) never) legs
 
--- the rule as facts
+-- ---- the rule as facts
+
 pub record Spread (g : ℕ) (legs : List Leg) : Type 0 where
-  pub numbered : (1 ≤ g) × (g ≤ 32)
+  -- 'there is at least one leg, and g is 1 to 32'
   pub leg : 1 ≤ length legs
+  pub numbered : (1 ≤ g) × (g ≤ 32)
+  -- 'one underlying, one style, one market'
   pub underlying : (u : ℕ) × All (λ l. l .underlying ≡ u) legs
   pub style : (u : ℕ) × All (λ l. l .style ≡ u) legs
   pub market : (u : ℕ) × All (λ l. l .market ≡ u) legs
+  -- 'no series is both long and short in the group'
   pub series : All (λ a. All (λ b. doubled a b ≡ false) legs) legs
+  -- 'long call units equal short call units, and long put units equal short put units (0 equals 0)'
   pub calls : unitsIn isLong isCall legs ≡ unitsIn isShort isCall legs
   pub puts : unitsIn isLong isPut legs ≡ unitsIn isShort isPut legs
+  -- 'the latest short expiry is no later than the earliest long expiry, over the whole group'
   pub lives : latestShort legs ≤ earliestLong legs
 
--- refusals 6 to 13 in number order: table 2, place g
+-- ---- the rule as refusals
+
+-- the answers to what 6 to 13 ask
+pub record Answers : Type 0 where
+  pub leg : Bool
+  pub underlying : Bool
+  pub style : Bool
+  pub market : Bool
+  pub series : Bool
+  pub calls : Bool
+  pub puts : Bool
+  pub lives : Bool
+
+-- '6 to 13 in number order': table 2, place g
+abbrev pub sixToThirteen : ℕ → Answers → List Check
+sixToThirteen g holds =
+    ask (holds .leg) 6 2 g
+    ∷ ask (holds .underlying) 7 2 g
+    ∷ ask (holds .style) 8 2 g
+    ∷ ask (holds .market) 9 2 g
+    ∷ ask (holds .series) 10 2 g
+    ∷ ask (holds .calls) 11 2 g
+    ∷ ask (holds .puts) 12 2 g
+    ∷ ask (holds .lives) 13 2 g
+    ∷ []
+
 unfoldable pub spreadChecks : ℕ → List Leg → List Check
 spreadChecks g legs =
-    ask (within 1 32 g && leb 1 (length legs)) 6 2 g
-    ∷ ask (oneOf (λ l. l .underlying) legs) 7 2 g
-    ∷ ask (oneOf (λ l. l .style) legs) 8 2 g
-    ∷ ask (oneOf (λ l. l .market) legs) 9 2 g
-    ∷ ask (noneDoubled legs) 10 2 g
-    ∷ ask (eqb (unitsIn isLong isCall legs) (unitsIn isShort isCall legs)) 11 2 g
-    ∷ ask (eqb (unitsIn isLong isPut legs) (unitsIn isShort isPut legs)) 12 2 g
-    ∷ ask (leb (latestShort legs) (earliestLong legs)) 13 2 g
-    ∷ []
+    sixToThirteen g
+    (record {
+      leg = within 1 32 g && leb 1 (length legs);
+      underlying = oneOf (λ l. l .underlying) legs;
+      style = oneOf (λ l. l .style) legs;
+      market = oneOf (λ l. l .market) legs;
+      series = noneDoubled legs;
+      calls = eqb (unitsIn isLong isCall legs) (unitsIn isShort isCall legs);
+      puts = eqb (unitsIn isLong isPut legs) (unitsIn isShort isPut legs);
+      lives = leb (latestShort legs) (earliestLong legs);
+    })

@@ -7,9 +7,9 @@ ghost use Rattle.records.specs.Order.{firstOf, groups};
 ghost use Rattle.records.specs.Tables.{legsOf};
 ghost use Rattle.records.specs.Written.{putAt};
 ghost use Rattle.spreads.specs.Strikes.{strikesOf, netsOf};
-ghost use Rattle.spreads.specs.Spreads.{groupOf, spreadChecks};
+ghost use Rattle.spreads.specs.Spreads.{groupIn, spreadChecks};
 ghost use Rattle.spreads.specs.Calls.{groupChecks, groupsChecks, marginCall, worksheetCall, listLeft, marginsCall, marginsFrom, strikesListed};
-ghost use Rattle.spreads.specs.Steps.{Placed};
+ghost use Rattle.spreads.specs.Steps.{Checked};
 use crate::rule::group_fault;
 use crate::walk::count_strikes;
 use crate::walk::fill;
@@ -53,10 +53,10 @@ pub fn margin(placement: &[u8], g: usize) -> Due
 
 // The worksheet of a group that is a spread: 17, or the lists.
 fn list_strikes(placement: &[u8], g: usize, strikes: &mut [u32], nets: &mut [i64]) -> Listed
-    requires { ⌜ Placed (now placement) ⌝ }
-    ensures { λ r. ⌜ r ≡ strikesListed [] (groupOf g (legsOf (now (placement .entry)))) (length (now (strikes .entry))) (length (now (nets .entry))) ⌝ }
-    ensures { λ r. ⌜ now (strikes .exit) ≡ listLeft r (strikesOf (groupOf g (legsOf (now (placement .entry))))) (now (strikes .entry)) ⌝ }
-    ensures { λ r. ⌜ now (nets .exit) ≡ listLeft r (netsOf (groupOf g (legsOf (now (placement .entry))))) (now (nets .entry)) ⌝ }
+    requires { ⌜ Checked (now placement) ⌝ }
+    ensures { λ r. ⌜ r ≡ strikesListed [] (groupIn (now (placement .entry)) g) (length (now (strikes .entry))) (length (now (nets .entry))) ⌝ }
+    ensures { λ r. ⌜ now (strikes .exit) ≡ listLeft r (strikesOf (groupIn (now (placement .entry)) g)) (now (strikes .entry)) ⌝ }
+    ensures { λ r. ⌜ now (nets .exit) ≡ listLeft r (netsOf (groupIn (now (placement .entry)) g)) (now (nets .entry)) ⌝ }
 {
     let n = count_strikes(placement, g);
     if (n <= strikes.len()) & (n <= nets.len()) {
@@ -73,8 +73,8 @@ fn list_strikes(placement: &[u8], g: usize, strikes: &mut [u32], nets: &mut [i64
 // The distinct strikes of group g, ascending, and the net at each, from index 0 of the lent slices.
 pub fn worksheet(placement: &[u8], g: usize, strikes: &mut [u32], nets: &mut [i64]) -> Listed
     ensures { λ r. ⌜ r ≡ worksheetCall (now (placement .entry)) g (length (now (strikes .entry))) (length (now (nets .entry))) ⌝ }
-    ensures { λ r. ⌜ now (strikes .exit) ≡ listLeft r (strikesOf (groupOf g (legsOf (now (placement .entry))))) (now (strikes .entry)) ⌝ }
-    ensures { λ r. ⌜ now (nets .exit) ≡ listLeft r (netsOf (groupOf g (legsOf (now (placement .entry))))) (now (nets .entry)) ⌝ }
+    ensures { λ r. ⌜ now (strikes .exit) ≡ listLeft r (strikesOf (groupIn (now (placement .entry)) g)) (now (strikes .entry)) ⌝ }
+    ensures { λ r. ⌜ now (nets .exit) ≡ listLeft r (netsOf (groupIn (now (placement .entry)) g)) (now (nets .entry)) ⌝ }
 {
     match checked_group(placement, g) {
         Fault::Is(refusal) => Listed::Refused(refusal),
@@ -84,8 +84,8 @@ pub fn worksheet(placement: &[u8], g: usize, strikes: &mut [u32], nets: &mut [i6
 
 // The first refusal of groups 1 to n of a checked placement, ascending.
 fn groups_fault(placement: &[u8], n: usize) -> Fault
-    requires { ⌜ Placed (now placement) ⌝ }
-    ensures { λ r. ⌜ r ≡ firstOf (groups n (λ g. spreadChecks g (groupOf g (legsOf (now (placement .entry)))))) ⌝ }
+    requires { ⌜ Checked (now placement) ⌝ }
+    ensures { λ r. ⌜ r ≡ firstOf (groups n (λ g. spreadChecks g (groupIn (now (placement .entry)) g))) ⌝ }
 {
     let mut k: usize = 0;
     while k < n {
@@ -110,7 +110,7 @@ fn checked_groups(placement: &[u8], n: usize) -> Fault
 
 // The margin of group g at index g - 1, for groups 1 to n.
 fn fill_margins(placement: &[u8], n: usize, out: &mut [i64])
-    requires { ⌜ Placed (now placement) ⌝ }
+    requires { ⌜ Checked (now placement) ⌝ }
     requires { ⌜ n ≤ length (now out) ⌝ }
     ensures { λ _. ⌜ now (out .exit) ≡ putAt (now (out .entry)) 0 (marginsFrom (legsOf (now (placement .entry))) 1 n) ⌝ }
 {

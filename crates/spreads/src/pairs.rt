@@ -3,11 +3,12 @@ ghost use mathlib.Core.Path.{_≡_};
 ghost use mathlib.Core.Bool.{not};
 ghost use Prim.Native.Nat.{_/_};
 ghost use lib.ListN.{length};
-ghost use Rattle.records.specs.Tables.{legsOf};
-ghost use Rattle.spreads.specs.Spreads.{groupOf, doubled, noneDoubled};
-ghost use Rattle.spreads.specs.Search.{clash, firstPair};
+ghost use Rattle.spreads.specs.Spreads.{groupIn, doubled, noneDoubled};
+ghost use Rattle.spreads.specs.Search.{clash, firstDoubled};
+use records::LONG;
 use records::Leg;
 use records::RECORD_BYTES;
+use records::SHORT;
 use records::leg_at;
 
 // The places of two legs of one series on both sides: the later one, and the earlier one.
@@ -17,24 +18,23 @@ pub enum Pair {
 }
 
 // Whether one series is long in a and short in b.
-fn long_and_short(a: Leg, b: Leg) -> bool
+fn is_doubled(a: Leg, b: Leg) -> bool
     ensures { λ r. ⌜ r ≡ doubled a b ⌝ }
 {
     let same = (a.right == b.right) & (a.strike == b.strike) & (a.expiry == b.expiry);
-    (a.side == 1) & (b.side == 2) & same
+    (a.side == LONG) & (b.side == SHORT) & same
 }
 
 // Whether a leg of group g is of one series with an earlier leg of it, on the other side.
 fn is_clash(g: usize, later: Leg, earlier: Leg) -> bool
     ensures { λ r. ⌜ r ≡ clash g later earlier ⌝ }
 {
-    (earlier.group as usize == g)
-        & (long_and_short(earlier, later) | long_and_short(later, earlier))
+    (earlier.group as usize == g) & (is_doubled(earlier, later) | is_doubled(later, earlier))
 }
 
 // The later leg is taken in the outer loop and the earlier ones in the inner loop.
 fn first_doubled(placement: &[u8], g: usize) -> Pair
-    ensures { λ r. ⌜ r ≡ firstPair g (now (placement .entry)) 0 (length (now (placement .entry)) / 32) ⌝ }
+    ensures { λ r. ⌜ r ≡ firstDoubled g (now (placement .entry)) 0 (length (now (placement .entry)) / 32) ⌝ }
 {
     let n = placement.len() / RECORD_BYTES;
     let mut j: usize = 0;
@@ -57,8 +57,8 @@ fn first_doubled(placement: &[u8], g: usize) -> Pair
 }
 
 // Whether a series of group g is both long and short.
-pub(crate) fn is_doubled(placement: &[u8], g: usize) -> bool
-    ensures { λ r. ⌜ r ≡ not (noneDoubled (groupOf g (legsOf (now (placement .entry))))) ⌝ }
+pub(crate) fn has_doubled(placement: &[u8], g: usize) -> bool
+    ensures { λ r. ⌜ r ≡ not (noneDoubled (groupIn (now (placement .entry)) g)) ⌝ }
 {
     match first_doubled(placement, g) {
         Pair::At(_, _) => true,

@@ -2,12 +2,15 @@
 ghost use mathlib.Core.Path.{_≡_};
 ghost use Prim.Native.Nat.{_+_, _-_, _*_, _<_, _≤_, _^_};
 ghost use lib.IntN.{pos, _-ℤ_};
-ghost use Rattle.records.specs.Tables.{legsOf};
 ghost use Rattle.spreads.specs.Prices.{intrinsic, value, at};
-ghost use Rattle.spreads.specs.Spreads.{groupOf};
-ghost use Rattle.spreads.specs.Steps.{Placed, top, withWorth, worthAt};
+ghost use Rattle.spreads.specs.Spreads.{groupIn};
+ghost use Rattle.spreads.specs.Steps.{Checked, strikesEnd, withWorth, worthAt};
+use records::CALL;
+use records::LONG;
 use records::Leg;
+use records::PUT;
 use records::RECORD_BYTES;
+use records::SHORT;
 use records::leg_at;
 
 // In mills.
@@ -30,10 +33,10 @@ fn excess(a: u64, b: u64) -> u64
 fn intrinsic_at(leg: Leg, price: u32) -> u64
     ensures { λ r. ⌜ r ≡ intrinsic 1 price leg ⌝ }
 {
-    if leg.right == 1 {
+    if leg.right == CALL {
         return excess(price as u64, leg.strike as u64);
     }
-    if leg.right == 2 {
+    if leg.right == PUT {
         return excess(leg.strike as u64, price as u64);
     }
     0
@@ -45,11 +48,11 @@ impl Worth {
         ensures { λ r. ⌜ r ≡ withWorth price self leg ⌝ }
     {
         let mills = leg.contracts.units(leg.size).number() * intrinsic_at(leg, price);
-        if leg.side == 1 {
+        if leg.side == LONG {
             self.long += mills;
             return self;
         }
-        if leg.side == 2 {
+        if leg.side == SHORT {
             self.short += mills;
         }
         self
@@ -71,9 +74,9 @@ impl Worth {
 
 // What group g of a checked placement is worth at a price.
 pub(crate) fn worth_at(placement: &[u8], g: usize, price: u32) -> Worth
-    requires { ⌜ Placed (now placement) ⌝ }
-    requires { ⌜ price < top ⌝ }
-    ensures { λ r. ⌜ r ≡ worthAt price (groupOf g (legsOf (now (placement .entry)))) ⌝ }
+    requires { ⌜ Checked (now placement) ⌝ }
+    requires { ⌜ price < strikesEnd ⌝ }
+    ensures { λ r. ⌜ r ≡ worthAt price (groupIn (now (placement .entry)) g) ⌝ }
 {
     let n = placement.len() / RECORD_BYTES;
     let mut worth = Worth { long: 0, short: 0 };

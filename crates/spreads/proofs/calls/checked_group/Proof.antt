@@ -1,14 +1,14 @@
 use mathlib.Core.Path.{sym, _∙_}
 use borrow.Author.Needs.{needs}
 use Rattle.spreads.specs.Calls.{groupChecks}
-use Rattle.spreads.proofs.Answers.{table-placed, table-then, table-stop}
+use Rattle.spreads.proofs.Answers.{table-checked, table-then, table-stop}
 use Rattle.spreads.proofs.calls.checked_group.Statement.{statement}
 use Rattle.spreads.proofs.calls.checked_group.Tie as tie
 
 group-fault-requires : tie.Need-group-fault-requires
 group-fault-requires c κs =
     let t = c .before .before in
-    table-placed _ _ (sym (t .check-table .ensures) ∙ c .enum-told .given .1)
+    table-checked _ _ (sym (t .check-table .ensures) ∙ c .enum-told .given .1)
 
 returns : tie.Need-returns
 unfolding groupChecks

@@ -1,14 +1,14 @@
 use mathlib.Core.Path.{sym, _∙_}
 use borrow.Author.Needs.{needs}
 use Rattle.spreads.specs.Calls.{groupsChecks}
-use Rattle.spreads.proofs.Answers.{table-placed, table-then, table-stop}
+use Rattle.spreads.proofs.Answers.{table-checked, table-then, table-stop}
 use Rattle.spreads.proofs.calls.checked_groups.Statement.{statement}
 use Rattle.spreads.proofs.calls.checked_groups.Tie as tie
 
 groups-fault-requires : tie.Need-groups-fault-requires
 groups-fault-requires c κs =
     let t = c .before .before in
-    table-placed _ _ (sym (t .check-table .ensures) ∙ c .enum-told .given .1)
+    table-checked _ _ (sym (t .check-table .ensures) ∙ c .enum-told .given .1)
 
 returns : tie.Need-returns
 unfolding groupsChecks

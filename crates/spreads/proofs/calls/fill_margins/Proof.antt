@@ -8,12 +8,12 @@ use borrow.Author.Needs.{needs}
 use Rattle.records.specs.Tables.{legsOf}
 use Rattle.spreads.specs.Calls.{marginsFrom}
 use Rattle.spreads.proofs.Answers.{length-margins, margin-at}
-use Rattle.spreads.proofs.Written.{Writing, write-none, write-length, write-more, write-all}
+use Rattle.spreads.proofs.Written.{WrittenSoFar, write-none, write-length, write-more, write-all}
 use Rattle.spreads.proofs.calls.fill_margins.Statement.{statement}
 use Rattle.spreads.proofs.calls.fill_margins.Tie as tie
 
 abbrev Inv-loop : tie.InvT-loop
-Inv-loop placement n out₀ k₀ out k = (k ≤ n) × Writing (marginsFrom (legsOf placement) 1 n) out₀ k out
+Inv-loop placement n out₀ k₀ out k = (k ≤ n) × WrittenSoFar (marginsFrom (legsOf placement) 1 n) out₀ k out
 
 abbrev μ-loop : tie.MeasureT-loop
 μ-loop placement n out₀ k₀ out k = n - k

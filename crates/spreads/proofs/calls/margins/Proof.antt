@@ -2,7 +2,7 @@ use mathlib.Core.Path.{refl, sym, _∙_}
 use borrow.Author.Needs.{needs}
 use borrow.Author.Tests.{le-leb, lt-leb}
 use Rattle.spreads.specs.Calls.{groupsChecks, marginsCall}
-use Rattle.spreads.proofs.Answers.{placed-first, list-in, list-out, list-stop}
+use Rattle.spreads.proofs.Answers.{checked-first, list-in, list-out, list-stop}
 use Rattle.spreads.proofs.calls.margins.Statement.{statement}
 use Rattle.spreads.proofs.calls.margins.Tie as tie
 
@@ -10,7 +10,7 @@ fill-margins-requires : tie.Need-fill-margins-requires
 unfolding groupsChecks
 fill-margins-requires c κs =
     let u = c .before .before in
-    (placed-first _ _ (sym (u .before .before .checked-groups .ensures) ∙ u .enum-told .given .1), c .before .if1 .taken)
+    (checked-first _ _ (sym (u .before .before .checked-groups .ensures) ∙ u .enum-told .given .1), c .before .if1 .taken)
 
 returns : tie.Need-returns
 unfolding marginsCall

@@ -2,7 +2,7 @@ use mathlib.Core.Path.{refl, sym, _∙_}
 use borrow.Author.Needs.{needs}
 use Rattle.records.proofs.OrderLaws.{first-then}
 use Rattle.spreads.specs.Calls.{groupChecks, strikesListed}
-use Rattle.spreads.proofs.Answers.{placed-first, list-stop}
+use Rattle.spreads.proofs.Answers.{checked-first, list-stop}
 use Rattle.spreads.proofs.calls.worksheet.Statement.{statement}
 use Rattle.spreads.proofs.calls.worksheet.Tie as tie
 
@@ -10,7 +10,7 @@ list-strikes-requires : tie.Need-list-strikes-requires
 unfolding groupChecks
 list-strikes-requires c κs =
     let t = c .before .before in
-    placed-first _ _ (sym (t .before .before .checked-group .ensures) ∙ t .enum-told .given .1)
+    checked-first _ _ (sym (t .before .before .checked-group .ensures) ∙ t .enum-told .given .1)
 
 returns : tie.Need-returns
 unfolding strikesListed

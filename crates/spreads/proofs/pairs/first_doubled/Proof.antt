@@ -6,7 +6,7 @@ use native.Mathlib.Nat.{sub-zero}
 use native.Mathlib.Omega.{arith}
 use lib.ListN.{length}
 use borrow.Author.Needs.{needs}
-use Rattle.spreads.specs.Search.{legsBetween, pairWith, firstPair}
+use Rattle.spreads.specs.Search.{legsBetween, pairWith, firstDoubled}
 use Rattle.spreads.proofs.SearchLaws.{with-next, with-end, pair-end, pair-in, pair-out}
 use Rattle.spreads.proofs.pairs.first_doubled.Statement.{statement}
 use Rattle.spreads.proofs.pairs.first_doubled.Tie as tie
@@ -14,13 +14,13 @@ use Rattle.spreads.proofs.pairs.first_doubled.Tie as tie
 abbrev Inv-loop : tie.InvT-loop
 Inv-loop placement g n j later i₀ i =
     (n ≡ length placement / 32) × (j < n) × (i ≤ j)
-    × (firstPair g placement 0 n ≡ pairWith g later j i (legsBetween placement i j) (firstPair g placement (j + 1) (n - (j + 1))))
+    × (firstDoubled g placement 0 n ≡ pairWith g later j i (legsBetween placement i j) (firstDoubled g placement (j + 1) (n - (j + 1))))
 
 abbrev μ-loop : tie.MeasureT-loop
 μ-loop placement g n j later i₀ i = j - i
 
 abbrev Inv-pairs : tie.InvT-pairs
-Inv-pairs placement g n j₀ j = (n ≡ length placement / 32) × (j ≤ n) × (firstPair g placement 0 n ≡ firstPair g placement j (n - j))
+Inv-pairs placement g n j₀ j = (n ≡ length placement / 32) × (j ≤ n) × (firstDoubled g placement 0 n ≡ firstDoubled g placement j (n - j))
 
 abbrev μ-pairs : tie.MeasureT-pairs
 μ-pairs placement g n j₀ j = n - j

@@ -2,9 +2,9 @@ use Prim.Native.Nat.{_-_}
 use mathlib.Core.Path.{refl, _∙_}
 use mathlib.Core.Logic.{⊎-elim}
 use native.Mathlib.Omega.{arith}
-use Rattle.spreads.specs.Steps.{withWorth, noWorth, worthAt}
+use Rattle.spreads.specs.Steps.{withWorth, noWorth}
 use Rattle.spreads.proofs.Folds.{Folding, fold-none, fold-in, fold-out, fold-done}
-use Rattle.spreads.proofs.Worths.{worth-room}
+use Rattle.spreads.proofs.Worths.{worth-all, worth-room}
 use Rattle.spreads.proofs.prices.worth_at.Statement.{statement}
 use Rattle.spreads.proofs.prices.worth_at.Tie as tie
 
@@ -30,8 +30,7 @@ loop-again c =
     (c .if1 .came)
 
 returns : tie.Need-returns Inv-loop μ-loop
-unfolding worthAt
-returns c = fold-done (c .before .loop .inv) (c .loop-test .left)
+returns c = fold-done (c .before .loop .inv) (c .loop-test .left) ∙ worth-all _ _
 
 pub worth-at-spec : {M : Type 1} → statement M
 worth-at-spec =

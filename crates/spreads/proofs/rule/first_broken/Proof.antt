@@ -1,101 +1,140 @@
 use Prim.Native.Nat.{ℕ}
-use mathlib.Core.Path.{_≡_, sym, _∙_}
-use mathlib.Core.Bool.{not, cond}
-use lib.Dec.{ltb}
+use mathlib.Core.Path.{_≡_, sym, ap, _∙_}
+use mathlib.Core.Bool.{not}
+use lib.ListN.{drop}
 use borrow.Author.Needs.{needs}
-use borrow.Author.Tests.{lt-ltb, le-ltb}
-use Rattle.spreads.specs.Gathered.{isBalanced}
-use Rattle.spreads.specs.Steps.{faultNumber}
+use borrow.Author.Tests.{not-true, not-false, le-leb, lt-leb}
+use Rattle.records.specs.Order.{firstOf}
+use Rattle.spreads.specs.Gathered.{factChecks}
+use Rattle.spreads.proofs.Answers.{first-holds, first-fails}
 use Rattle.spreads.proofs.rule.first_broken.Statement.{statement}
 use Rattle.spreads.proofs.rule.first_broken.Tie as tie
 
--- the number asked for where the function begins, and what is left of it from each number on
-abbrev from-6 : tie.Start → ℕ
-from-6 t = faultNumber (t .args .in-reach) (t .args .facts) (t .args .doubled)
+-- the first n checks hold
+abbrev Past : ℕ → tie.Start → Type 0
+Past n t =
+    let cs = factChecks (t .args .g) (t .args .facts) (t .args .doubled) in
+    firstOf cs ≡ firstOf (drop n cs)
 
-abbrev from-13 : tie.Start → ℕ
-from-13 t = cond (ltb (t .args .facts .lives .earliest) (t .args .facts .lives .latest)) 13 0
+-- ---- where the function began, from the place behind each test
 
-abbrev from-12 : tie.Start → ℕ
-from-12 t = cond (not (isBalanced (t .args .facts .puts))) 12 (from-13 t)
+abbrev start-6 : tie.Else1 → tie.Start
+start-6 c = c .before .before
 
-abbrev from-11 : tie.Start → ℕ
-from-11 t = cond (not (isBalanced (t .args .facts .calls))) 11 (from-12 t)
+abbrev start-7 : tie.Else2 → tie.Start
+start-7 c = start-6 (c .before)
 
-abbrev from-10 : tie.Start → ℕ
-from-10 t = cond (t .args .doubled) 10 (from-11 t)
+abbrev start-8 : tie.Else3 → tie.Start
+start-8 c = start-7 (c .before)
 
-abbrev from-9 : tie.Start → ℕ
-from-9 t = cond (t .args .facts .firsts .markets) 9 (from-10 t)
+abbrev start-9 : tie.Else4 → tie.Start
+start-9 c = start-8 (c .before)
 
-abbrev from-8 : tie.Start → ℕ
-from-8 t = cond (t .args .facts .firsts .styles) 8 (from-9 t)
+abbrev start-10 : tie.Else5 → tie.Start
+start-10 c = start-9 (c .before)
 
-abbrev from-7 : tie.Start → ℕ
-from-7 t = cond (t .args .facts .firsts .underlyings) 7 (from-8 t)
+abbrev start-11 : tie.Else6 → tie.Start
+start-11 c = start-10 (c .before .before)
 
-past-6 : (c : tie.Else1) → let t = c .before .before in from-6 t ≡ from-7 t
-unfolding faultNumber
-past-6 c = rw (c .if1 .left)
+abbrev start-12 : tie.Else7 → tie.Start
+start-12 c = start-11 (c .before .before)
 
-past-7 : (c : tie.Else2) → let t = c .before .before .before in from-6 t ≡ from-8 t
-past-7 c = past-6 (c .before) ∙ rw (c .if2 .left)
+abbrev start-13 : tie.Else8 → tie.Start
+start-13 c = start-12 (c .before .before)
 
-past-8 : (c : tie.Else3) → let t = c .before .before .before .before in from-6 t ≡ from-9 t
-past-8 c = past-7 (c .before) ∙ rw (c .if3 .left)
+-- ---- what is left to ask there
 
-past-9 : (c : tie.Else4) → let t = c .before .before .before .before .before in from-6 t ≡ from-10 t
-past-9 c = past-8 (c .before) ∙ rw (c .if4 .left)
+past-6 : (c : tie.Else1) → Past 1 (start-6 c)
+unfolding factChecks
+past-6 c = first-holds _ _ (not-false _ (c .if1 .left))
 
-past-10 : (c : tie.Else5) → let t = c .before .before .before .before .before .before in from-6 t ≡ from-11 t
-past-10 c = past-9 (c .before) ∙ rw (c .if5 .left)
+past-7 : (c : tie.Else2) → Past 2 (start-7 c)
+unfolding factChecks
+past-7 c = past-6 (c .before) ∙ first-holds _ _ (ap not (c .if2 .left))
 
-past-11 : (c : tie.Else6) → let t = c .before .before .before .before .before .before .before .before in from-6 t ≡ from-12 t
-past-11 c = past-10 (c .before .before) ∙ rw (← c .before .balanced .ensures, c .if6 .left)
+past-8 : (c : tie.Else3) → Past 3 (start-8 c)
+unfolding factChecks
+past-8 c = past-7 (c .before) ∙ first-holds _ _ (ap not (c .if3 .left))
 
-past-12 : (c : tie.Else7) → let t = c .before .before .before .before .before .before .before .before .before .before in from-6 t ≡ from-13 t
-past-12 c = past-11 (c .before .before) ∙ rw (← c .before .balanced2 .ensures, c .if7 .left)
+past-9 : (c : tie.Else4) → Past 4 (start-9 c)
+unfolding factChecks
+past-9 c = past-8 (c .before) ∙ first-holds _ _ (ap not (c .if4 .left))
+
+past-10 : (c : tie.Else5) → Past 5 (start-10 c)
+unfolding factChecks
+past-10 c = past-9 (c .before) ∙ first-holds _ _ (ap not (c .if5 .left))
+
+past-11 : (c : tie.Else6) → Past 6 (start-11 c)
+unfolding factChecks
+past-11 c = past-10 (c .before .before) ∙ first-holds _ _ (sym (c .before .balanced .ensures) ∙ not-false _ (c .if6 .left))
+
+past-12 : (c : tie.Else7) → Past 7 (start-12 c)
+unfolding factChecks
+past-12 c = past-11 (c .before .before) ∙ first-holds _ _ (sym (c .before .balanced2 .ensures) ∙ not-false _ (c .if7 .left))
+
+past-13 : (c : tie.Else8) → Past 8 (start-13 c)
+unfolding factChecks
+past-13 c = past-12 (c .before .before) ∙ first-holds _ _ (le-leb _ _ (c .if8 .left))
+
+-- ---- the refusals
 
 returns : tie.Need-returns
-unfolding faultNumber
-returns c = rw (c .if1 .taken)
+unfolding factChecks
+returns c = c .refused .ensures ∙ sym (first-fails _ _ (not-true _ (c .before .if1 .taken)))
 
 returns-2 : tie.Need-returns-2
-returns-2 c = sym (past-6 (c .before) ∙ rw (c .if2 .taken))
+unfolding factChecks
+returns-2 c = c .refused2 .ensures ∙ sym (past-6 (c .before .before) ∙ first-fails _ _ (ap not (c .before .if2 .taken)))
 
 returns-3 : tie.Need-returns-3
-returns-3 c = sym (past-7 (c .before) ∙ rw (c .if3 .taken))
+unfolding factChecks
+returns-3 c = c .refused3 .ensures ∙ sym (past-7 (c .before .before) ∙ first-fails _ _ (ap not (c .before .if3 .taken)))
 
 returns-4 : tie.Need-returns-4
-returns-4 c = sym (past-8 (c .before) ∙ rw (c .if4 .taken))
+unfolding factChecks
+returns-4 c = c .refused4 .ensures ∙ sym (past-8 (c .before .before) ∙ first-fails _ _ (ap not (c .before .if4 .taken)))
 
 returns-5 : tie.Need-returns-5
-returns-5 c = sym (past-9 (c .before) ∙ rw (c .if5 .taken))
+unfolding factChecks
+returns-5 c = c .refused5 .ensures ∙ sym (past-9 (c .before .before) ∙ first-fails _ _ (ap not (c .before .if5 .taken)))
 
 returns-6 : tie.Need-returns-6
-returns-6 c = sym (past-10 (c .before .before) ∙ rw (← c .before .balanced .ensures, c .if6 .taken))
+unfolding factChecks
+returns-6 c = c .refused6 .ensures ∙ sym (past-10 (c .before .before .before) ∙ first-fails _ _ (sym (c .before .before .balanced .ensures) ∙ not-true _ (c .before .if6 .taken)))
 
 returns-7 : tie.Need-returns-7
-returns-7 c = sym (past-11 (c .before .before) ∙ rw (← c .before .balanced2 .ensures, c .if7 .taken))
+unfolding factChecks
+returns-7 c = c .refused7 .ensures ∙ sym (past-11 (c .before .before .before) ∙ first-fails _ _ (sym (c .before .before .balanced2 .ensures) ∙ not-true _ (c .before .if7 .taken)))
 
 returns-8 : tie.Need-returns-8
-returns-8 c = sym (past-12 (c .before .before) ∙ rw (lt-ltb _ _ (c .if8 .taken)))
+unfolding factChecks
+returns-8 c = c .refused8 .ensures ∙ sym (past-12 (c .before .before .before) ∙ first-fails _ _ (lt-leb _ _ (c .before .if8 .taken)))
 
 returns-9 : tie.Need-returns-9
-returns-9 c = sym (past-12 (c .before .before) ∙ rw (le-ltb _ _ (c .if8 .left)))
+unfolding factChecks firstOf
+returns-9 c = sym (past-13 c)
 
 pub first-broken-spec : {M : Type 1} → statement M
 first-broken-spec =
     tie.close
     (tie.spec
+    (λ c. search needs)
+    (λ c κs. search needs)
     returns
+    (λ c κs. search needs)
     returns-2
+    (λ c κs. search needs)
     returns-3
+    (λ c κs. search needs)
     returns-4
+    (λ c κs. search needs)
     returns-5
+    (λ c κs. search needs)
     (λ c κs. search needs)
     returns-6
     (λ c κs. search needs)
+    (λ c κs. search needs)
     returns-7
+    (λ c κs. search needs)
     returns-8
     returns-9)

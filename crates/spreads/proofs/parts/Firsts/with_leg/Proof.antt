@@ -1,6 +1,6 @@
 use Rattle.spreads.specs.Gathered.{withFirsts}
-use Rattle.spreads.proofs.facts.Firsts.with_leg.Statement.{statement}
-use Rattle.spreads.proofs.facts.Firsts.with_leg.Tie as tie
+use Rattle.spreads.proofs.parts.Firsts.with_leg.Statement.{statement}
+use Rattle.spreads.proofs.parts.Firsts.with_leg.Tie as tie
 
 returns : tie.Need-returns
 unfolding withFirsts
