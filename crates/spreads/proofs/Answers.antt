@@ -1,13 +1,11 @@
--- The answers of the calls: what is checked first, what is left to check, and the margins as a list.
-use Prim.Native.Nat.{ℕ, zero, suc, _+_, _≤_, _<_}
-use mathlib.Core.Path.{_≡_, refl, ap}
+-- The answers of the calls: what is checked first, and what is left to check.
+use Prim.Native.Nat.{ℕ, _+_, _≤_}
+use mathlib.Core.Path.{_≡_, refl}
 use mathlib.Core.Bool.{Bool, true, false, _&&_, and-eq-true-iff}
 use mathlib.Core.List.{List, [], _∷_, _++_}
-use native.Mathlib.Nat.{add-zero}
 use native.Mathlib.Omega.{arith}
 use lib.Dec.{leb}
-use lib.IntN.{ℤ, pos}
-use lib.ListN.{length, getD}
+use lib.ListN.{length}
 use borrow.Author.Tests.{leb-true}
 use Rattle.records.specs.Order.{Check, ask, refuse, firstOf}
 use Rattle.records.specs.Tables.{tableChecks, counted, countedOf}
@@ -18,9 +16,8 @@ use Rattle.records.specs.declared.refusals.Fault.the-variants.{Nothing, Is}
 use Rattle.records.specs.declared.tables.Counted.the-variants.{Records, Refused}
 use Rattle.records.specs.declared.tables.Kind.the-variants.{Placement}
 use Rattle.records.proofs.OrderLaws.{first-then, first-stop, clear, unclear, pass-left}
-use Rattle.spreads.specs.Spreads.{groupOf}
-use Rattle.spreads.specs.Strikes.{strikesOf, marginOf}
-use Rattle.spreads.specs.Calls.{listedAfter, strikesListed, marginsFrom}
+use Rattle.spreads.specs.Strikes.{strikesOf}
+use Rattle.spreads.specs.Calls.{listedAfter, strikesListed}
 use Rattle.spreads.specs.Steps.{Checked}
 use Rattle.spreads.specs.declared.calls.Listed.the-variants.{Entries, Refused as Refused-listed}
 
@@ -91,22 +88,3 @@ module _ (legs : List Leg) (a b n : ℕ) (e : n ≡ length (strikesOf legs)) whe
   pub strikes-out : leb n a && leb n b ≡ false → Refused-listed (refuse 17 0 n) ≡ strikesListed [] legs a b
   unfolding strikesListed firstOf
   strikes-out h = rw (← e) (list-out [] (leb n a && leb n b) n refl h)
-
--- ---- the margins as a list
-
-module _ (legs : List Leg) where
-  pub length-margins : (g n : ℕ) → length (marginsFrom legs g n) ≡ n
-  unfolding marginsFrom
-  length-margins g zero = refl
-  length-margins g (suc n) = ap suc (length-margins (g + 1) n)
-
-  getD-margins : (z : ℤ) (g n k : ℕ) → k < n → getD (marginsFrom legs g n) k z ≡ pos (marginOf (groupOf (g + k) legs))
-  unfolding marginsFrom
-  getD-margins z g zero k h = absurd (omega arith)
-  getD-margins z g (suc n) zero h = rw add-zero
-  getD-margins z g (suc n) (suc k) h =
-      let e : g + 1 + k ≡ g + suc k = omega arith in
-      rw e at (getD-margins z (g + 1) n k (omega arith))
-
-  pub margin-at : (z : ℤ) (n k : ℕ) → k < n → getD (marginsFrom legs 1 n) k z ≡ pos (marginOf (groupOf (k + 1) legs))
-  margin-at z n k h = let e : 1 + k ≡ k + 1 = omega arith in rw e at (getD-margins z 1 n k h)

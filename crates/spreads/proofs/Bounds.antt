@@ -9,6 +9,7 @@ use lib.ListN.{length}
 use Rattle.records.specs.Lists.{only, sum, All}
 use Rattle.records.specs.Chunks.{chunkAt}
 use Rattle.records.specs.Legs.{isLong, isShort, isCall, isPut, legOf}
+use Rattle.records.specs.Claims.{mostMills}
 use Rattle.records.specs.Tables.{tableChecks, fieldChecks, legsOf}
 use Rattle.records.specs.declared.legs.Leg.{Leg}
 use Rattle.records.specs.declared.tables.Kind.the-variants.{Placement}
@@ -23,53 +24,60 @@ use Rattle.spreads.proofs.StrikeSums.{margin-legs}
 
 -- ---- one leg
 
-intrinsic-small : (k : ℕ) (l : Leg) → Ranges 32 l → k < strikesEnd → intrinsic 1 k l ≤ 100000000
+-- the most units: 100,000 contracts of 1,000
+abbrev pub legUnits : ℕ
+legUnits = 100000000
+
+-- the most mills: of each unit less than a strike can be
+abbrev pub legMills : ℕ
+legMills = legUnits * strikesEnd
+
+intrinsic-small : (k : ℕ) (l : Leg) → Ranges 32 l → k < strikesEnd → intrinsic 1 k l ≤ strikesEnd
 unfolding intrinsic
 intrinsic-small k l r h =
     omega (arith, only-le (isCall l) (k - 1 * l .strike), only-le (isPut l) (1 * l .strike - k), r .strike)
 
--- at most 100,000,000 units of 100,000,000 mills
-pub worth-small : (k : ℕ) (l : Leg) → Ranges 32 l → k < strikesEnd → value 1 (at k) l ≤ 10000000000000000
+pub worth-small : (k : ℕ) (l : Leg) → Ranges 32 l → k < strikesEnd → value 1 (at k) l ≤ legMills
 unfolding value
 worth-small k l r h = mul-le-mul (units-small 32 l r .1) (intrinsic-small k l r h)
 
 -- ---- many legs
 
 module _ (k : ℕ) (legs : List Leg) (r : All (Ranges 32) legs) (h : k < strikesEnd) where
-  side-bound : (side : Leg → Bool) → sum (λ l. only (side l) (value 1 (at k) l)) legs ≤ 10000000000000000 * length legs
+  side-bound : (side : Leg → Bool) → sum (λ l. only (side l) (value 1 (at k) l)) legs ≤ legMills * length legs
   side-bound side =
-      sum-bound _ 10000000000000000 legs
+      sum-bound _ legMills legs
       (all-map legs (λ l q. omega (arith, worth-small k l q h, only-le (side l) (value 1 (at k) l))) r)
 
-  loss-bound : lossAt legs k ≤ 10000000000000000 * length legs
+  loss-bound : lossAt legs k ≤ legMills * length legs
   unfolding lossAt shortAt
   loss-bound = omega (arith, side-bound isShort)
 
-  pub sides-small : length legs ≤ 256 → (longAt 1 (at k) legs ≤ 2560000000000000000) × (shortAt 1 (at k) legs ≤ 2560000000000000000)
+  pub sides-small : length legs ≤ 256 → (longAt 1 (at k) legs ≤ mostMills) × (shortAt 1 (at k) legs ≤ mostMills)
   unfolding longAt shortAt
   sides-small n = (omega (arith, side-bound isLong), omega (arith, side-bound isShort))
 
 -- ---- the margin
 
-pub margin-bound : (legs : List Leg) → All (Ranges 32) legs → marginOf legs ≤ 10000000000000000 * length legs
+pub margin-bound : (legs : List Leg) → All (Ranges 32) legs → marginOf legs ≤ legMills * length legs
 margin-bound legs r =
     rw (margin-legs legs)
-    (most-bound (λ l. lossAt legs (l .strike)) (10000000000000000 * length legs) legs
+    (most-bound (λ l. lossAt legs (l .strike)) (legMills * length legs) legs
     (all-map legs (λ l q. loss-bound (l .strike) legs r (omega (arith, q .strike))) r))
 
--- ---- a group of a placement of at most 256 legs
+-- ---- a group of a placement
 
-module _ (legs : List Leg) (ranges : All (Ranges 32) legs) (few : length legs ≤ 256) (g : ℕ) where
-  pub legs-ranges : All (Ranges 32) (groupOf g legs)
+module _ (legs : List Leg) (g : ℕ) where
+  pub legs-ranges : All (Ranges 32) legs → All (Ranges 32) (groupOf g legs)
   unfolding groupOf
-  legs-ranges = all-keep (Ranges 32) (λ l. eqb (l .group) g) legs ranges
+  legs-ranges = all-keep (Ranges 32) (λ l. eqb (l .group) g) legs
 
-  pub legs-few : length (groupOf g legs) ≤ 256
+  pub legs-few : length legs ≤ 256 → length (groupOf g legs) ≤ 256
   unfolding groupOf
-  legs-few = omega (arith, length-keep (λ l. eqb (l .group) g) legs)
+  legs-few few = omega (arith, length-keep (λ l. eqb (l .group) g) legs)
 
-  pub legs-margin : marginOf (groupOf g legs) ≤ 2560000000000000000
-  legs-margin = omega (arith, margin-bound (groupOf g legs) legs-ranges, legs-few)
+  pub legs-margin : All (Ranges 32) legs → length legs ≤ 256 → marginOf (groupOf g legs) ≤ mostMills
+  legs-margin ranges few = omega (arith, margin-bound (groupOf g legs) (legs-ranges ranges), legs-few few)
 
 -- ---- the same of a checked table
 
@@ -88,10 +96,10 @@ module _ (xs : List ℕ) (p : Checked xs) where
 
   module _ (g : ℕ) where
     pub group-ranges : All (Ranges 32) (groupIn xs g)
-    group-ranges = legs-ranges (legsOf xs) table-ranges table-few g
+    group-ranges = legs-ranges (legsOf xs) g table-ranges
 
     pub group-few : length (groupIn xs g) ≤ 256
-    group-few = legs-few (legsOf xs) table-ranges table-few g
+    group-few = legs-few (legsOf xs) g table-few
 
-    pub margin-small : marginOf (groupIn xs g) ≤ 2560000000000000000
-    margin-small = legs-margin (legsOf xs) table-ranges table-few g
+    pub margin-small : marginOf (groupIn xs g) ≤ mostMills
+    margin-small = legs-margin (legsOf xs) g table-ranges table-few

@@ -17,7 +17,7 @@ use Rattle.spreads.specs.Steps.{Checked}
 use Rattle.spreads.specs.declared.parts.Sides.{Sides}
 use Rattle.spreads.specs.declared.parts.Lives.{Lives}
 use Rattle.spreads.specs.declared.facts.Facts.{Facts}
-use Rattle.spreads.proofs.Bounds.{group-ranges, group-few}
+use Rattle.spreads.proofs.Bounds.{legUnits, group-ranges, group-few}
 use Rattle.spreads.proofs.FirstsLaws.{firsts-are}
 
 -- ---- each part of the facts is gathered by itself
@@ -64,7 +64,7 @@ unfolding unitsIn
 units-fit side right legs r few =
     omega (
       arith,
-      sum-bound (λ l. only (side l) (only (right l) (units l))) 100000000 legs
+      sum-bound (λ l. only (side l) (only (right l) (units l))) legUnits legs
           (all-map legs (λ l q. omega (arith, only-le (side l) (only (right l) (units l)), only-le (right l) (units l), units-small 32 l q)) r),
     )
 

@@ -26,3 +26,4 @@ pub mod Written
 pub mod WalkResults
 -- the calls
 pub mod Answers
+pub mod MarginLists

@@ -8,13 +8,14 @@ use lib.ListN.{length}
 use Rattle.records.specs.Lists.{sum, All}
 use Rattle.records.specs.Chunks.{chunkAt}
 use Rattle.records.specs.Legs.{legOf}
+use Rattle.records.specs.Claims.{mostMills}
 use Rattle.records.specs.declared.legs.Leg.{Leg}
 use Rattle.records.proofs.TableLaws.{Ranges}
 use Rattle.spreads.specs.Prices.{value, longAt, shortAt, at, net, lossAt}
 use Rattle.spreads.specs.Spreads.{groupIn}
 use Rattle.spreads.specs.Steps.{Checked, strikesEnd, withWorth, noWorth, worthAt}
 use Rattle.spreads.specs.declared.prices.Worth.{Worth}
-use Rattle.spreads.proofs.Bounds.{group-ranges, group-few, leg-ranges, sides-small, worth-small}
+use Rattle.spreads.proofs.Bounds.{legMills, group-ranges, group-few, leg-ranges, sides-small, worth-small}
 use Rattle.spreads.proofs.Folds.{rest, Folding}
 
 -- ---- the loop
@@ -39,7 +40,7 @@ pub worth-room : {k g : ℕ} {xs : List ℕ} {n i : ℕ} {w : Worth} → Folding
     → i < n → {l : Leg} → l ≡ legOf (chunkAt 32 xs i)
     → (w .long + value 1 (at k) l < 2 ^ 64) × (w .short + value 1 (at k) l < 2 ^ 64)
 worth-room {k} {g} {xs} {i = i} {w = w} f p b h {l} e =
-    let v : value 1 (at k) l ≤ 10000000000000000 = rw e (worth-small k (legOf (chunkAt 32 xs i)) (leg-ranges xs p i (omega arith)) b) in
+    let v : value 1 (at k) l ≤ legMills = rw e (worth-small k (legOf (chunkAt 32 xs i)) (leg-ranges xs p i (omega arith)) b) in
     let all = sides-small k (groupIn xs g) (group-ranges xs p g) b (group-few xs p g) in
     let whole = worth-more k noWorth (groupIn xs g) in
     let part = worth-more k w (rest g xs i) in
@@ -58,5 +59,5 @@ module _ (w : Worth) (k : ℕ) (legs : List Leg) (e : w ≡ worthAt k legs) wher
   unfolding net
   worth-net = rw e
 
-  pub worth-fits : All (Ranges 32) legs → length legs ≤ 256 → k < strikesEnd → (w .long ≤ 2560000000000000000) × (w .short ≤ 2560000000000000000)
+  pub worth-fits : All (Ranges 32) legs → length legs ≤ 256 → k < strikesEnd → (w .long ≤ mostMills) × (w .short ≤ mostMills)
   worth-fits r n h = rw e (sides-small k legs r h n)

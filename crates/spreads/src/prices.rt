@@ -2,6 +2,7 @@
 ghost use mathlib.Core.Path.{_≡_};
 ghost use Prim.Native.Nat.{_+_, _-_, _*_, _<_, _≤_, _^_};
 ghost use lib.IntN.{pos, _-ℤ_};
+ghost use Rattle.records.specs.Claims.{mostMills};
 ghost use Rattle.spreads.specs.Prices.{intrinsic, value, at};
 ghost use Rattle.spreads.specs.Spreads.{groupIn};
 ghost use Rattle.spreads.specs.Steps.{Checked, strikesEnd, withWorth, worthAt};
@@ -65,7 +66,7 @@ impl Worth {
     }
 
     pub(crate) fn net(self) -> i64
-        requires { ⌜ (self .long ≤ 2560000000000000000) × (self .short ≤ 2560000000000000000) ⌝ }
+        requires { ⌜ (self .long ≤ mostMills) × (self .short ≤ mostMills) ⌝ }
         ensures { λ r. ⌜ r ≡ pos (self .long) -ℤ pos (self .short) ⌝ }
     {
         self.long as i64 - self.short as i64
