@@ -1,6 +1,6 @@
 -- The answers of the calls: what is checked first, and what is left to check.
 use Prim.Native.Nat.{ℕ, _+_, _≤_}
-use mathlib.Core.Path.{_≡_, refl}
+use mathlib.Core.Path.{_≡_, refl, sym, _∙_}
 use mathlib.Core.Bool.{Bool, true, false, _&&_, and-eq-true-iff}
 use mathlib.Core.List.{List, [], _∷_, _++_}
 use native.Mathlib.Omega.{arith}
@@ -13,6 +13,7 @@ use Rattle.records.specs.declared.legs.Leg.{Leg}
 use Rattle.records.specs.declared.refusals.Refusal.{Refusal}
 use Rattle.records.specs.declared.refusals.Fault.{Fault}
 use Rattle.records.specs.declared.refusals.Fault.the-variants.{Nothing, Is}
+use Rattle.records.specs.declared.tables.Counted.{Counted}
 use Rattle.records.specs.declared.tables.Counted.the-variants.{Records, Refused}
 use Rattle.records.specs.declared.tables.Kind.the-variants.{Placement}
 use Rattle.records.proofs.OrderLaws.{first-then, first-stop, clear, unclear, pass-left}
@@ -42,22 +43,22 @@ counted-not : (f : Fault) (n : ℕ) (r : Refusal) → counted f n ≡ Refused r 
 counted-not Nothing n r e = let z : _≡_ {A = ℕ} 0 1 = cc in absurd (omega arith)
 counted-not (Is q) n r e = cc
 
-module _ (xs : List ℕ) where
-  pub table-checked : (n : ℕ) → countedOf Placement xs ≡ Records n → Checked xs
+-- what its count says of the checks that follow
+module _ (xs : List ℕ) {k : Counted} (e : k ≡ countedOf Placement xs) where
+  pub table-checked : {n : ℕ} → k ≡ Records n → Checked xs
   unfolding countedOf
-  table-checked n e = counted-is (firstOf (tableChecks Placement xs)) _ n e
+  table-checked {n} q = counted-is (firstOf (tableChecks Placement xs)) _ n (sym e ∙ q)
 
-  module _ (cs : List Check) where
-    pub table-then : (n : ℕ) → countedOf Placement xs ≡ Records n → firstOf (tableChecks Placement xs ++ cs) ≡ firstOf cs
-    table-then n e = first-then (tableChecks Placement xs) cs (table-checked n e)
+  pub table-then : (cs : List Check) {n : ℕ} → k ≡ Records n → firstOf (tableChecks Placement xs ++ cs) ≡ firstOf cs
+  table-then cs q = first-then (tableChecks Placement xs) cs (table-checked q)
 
-    pub table-stop : (r : Refusal) → countedOf Placement xs ≡ Refused r → firstOf (tableChecks Placement xs ++ cs) ≡ Is r
-    unfolding countedOf
-    table-stop r e = first-stop (tableChecks Placement xs) cs r (counted-not (firstOf (tableChecks Placement xs)) _ r e)
+  pub table-stop : (cs : List Check) {r : Refusal} → k ≡ Refused r → firstOf (tableChecks Placement xs ++ cs) ≡ Is r
+  unfolding countedOf
+  table-stop cs {r} q = first-stop (tableChecks Placement xs) cs r (counted-not (firstOf (tableChecks Placement xs)) _ r (sym e ∙ q))
 
-    -- where the table's checks and others pass, the table passes
-    pub checked-first : firstOf (tableChecks Placement xs ++ cs) ≡ Nothing → Checked xs
-    checked-first e = unclear (tableChecks Placement xs) (pass-left (tableChecks Placement xs) cs (clear _ e))
+-- where the table's checks and others pass, the table passes
+pub checked-first : (xs : List ℕ) (cs : List Check) → firstOf (tableChecks Placement xs ++ cs) ≡ Nothing → Checked xs
+checked-first xs cs e = unclear (tableChecks Placement xs) (pass-left (tableChecks Placement xs) cs (clear _ e))
 
 -- ---- a call that lists n entries: its checks, and then 17 where there is no room
 

@@ -78,8 +78,8 @@ pub record Spread (g : ℕ) (legs : List Leg) : Type 0 where
 
 -- ---- the rule as refusals
 
--- the answers to what 6 to 13 ask
-pub record Answers : Type 0 where
+-- which parts of the rule are kept, as 6 to 13 ask
+pub record RuleKept : Type 0 where
   pub leg : Bool
   pub underlying : Bool
   pub style : Bool
@@ -90,16 +90,16 @@ pub record Answers : Type 0 where
   pub lives : Bool
 
 -- '6 to 13 in number order': table 2, place g
-abbrev pub sixToThirteen : ℕ → Answers → List Check
-sixToThirteen g holds =
-    ask (holds .leg) 6 2 g
-    ∷ ask (holds .underlying) 7 2 g
-    ∷ ask (holds .style) 8 2 g
-    ∷ ask (holds .market) 9 2 g
-    ∷ ask (holds .series) 10 2 g
-    ∷ ask (holds .calls) 11 2 g
-    ∷ ask (holds .puts) 12 2 g
-    ∷ ask (holds .lives) 13 2 g
+abbrev pub sixToThirteen : ℕ → RuleKept → List Check
+sixToThirteen g kept =
+    ask (kept .leg) 6 2 g
+    ∷ ask (kept .underlying) 7 2 g
+    ∷ ask (kept .style) 8 2 g
+    ∷ ask (kept .market) 9 2 g
+    ∷ ask (kept .series) 10 2 g
+    ∷ ask (kept .calls) 11 2 g
+    ∷ ask (kept .puts) 12 2 g
+    ∷ ask (kept .lives) 13 2 g
     ∷ []
 
 unfoldable pub spreadChecks : ℕ → List Leg → List Check
