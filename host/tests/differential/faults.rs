@@ -1,10 +1,11 @@
 //! Faults in tables: each one is small, and two of them try the order of refusals.
 
 use usm::accounts::{in_group, leg};
+use usm::fields::*;
 use usm::{Claim, Tables, GREATEST_AMOUNT, MOST_CLAIMS, MOST_LEGS, RECORD_BYTES};
 
-use crate::fields::*;
 use crate::random::Random;
+use crate::values::{AT_THE_LIMIT, BAD_IN_CLAIMS, BAD_IN_LEGS};
 
 /// Makes one fault. Some choices leave a small sheet as it is, and some changes are
 /// harmless: the model knows.
