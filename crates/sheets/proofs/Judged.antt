@@ -20,7 +20,7 @@ use Rattle.records.proofs.ListLaws.{all-map, every}
 use Rattle.records.proofs.OrderLaws.{Pass, clear, unclear, pass-left, pass-right, pass-both, pass-each, each-pass, pass-groups, groups-pass}
 use Rattle.records.proofs.TableLaws.{fields-good}
 use Rattle.spreads.specs.Spreads.{groupOf, spreadChecks}
-use Rattle.spreads.proofs.RuleLaws.{pass-spread, spread-pass}
+use Rattle.spreads.proofs.RuleLaws.{checks-to-spread, spread-to-checks}
 use Rattle.sheets.specs.Demands.{Sound, Kept}
 use Rattle.sheets.specs.Lines.{contractsOf, evenAt}
 use Rattle.sheets.specs.Sheets.{Numbered, Accepted, askNumbered, askNamed, askPlaced, askClaim, askLines, spreadsRule, ruleChecks, tablesChecks, sheetChecks}
@@ -86,7 +86,7 @@ pass-rule h p c a =
     record {
       numbered = pass-numbered 0 c (s .0);
       named = all-map p (λ l q. leb-true (l .group) (length c) q) (pass-each _ 5 2 0 p (named .0));
-      spreads = λ g i j. pass-spread g (groupOf g p) (pass-groups (length c) (λ k. spreadChecks k (groupOf k p)) (spreads .0) g i j);
+      spreads = λ g i j. checks-to-spread g (groupOf g p) (pass-groups (length c) (λ k. spreadChecks k (groupOf k p)) (spreads .0) g i j);
       lines = pass-lines h p (lines .0);
       placed = all-map p (λ l q t z. not-both (isShort l) (eqb (l .group) 0) q t (eq-eqb (l .group) 0 z)) (pass-each _ 15 2 0 p (placed .0));
       claims = λ g i j. eqb-true _ _ (pass-groups (length c) (askClaim p c) (placed .1) g i j .0);
@@ -97,7 +97,7 @@ unfolding ruleChecks spreadsRule
 rule-pass h p c ok =
     pass-both (askNumbered 0 c) _ (numbered-pass 0 c (ok .numbered))
     (pass-both (askNamed (length c) p) _ (each-pass _ 5 2 0 p (all-map p (λ l q. le-leb (l .group) (length c) q) (ok .named)))
-    (pass-both (groups (length c) (λ g. spreadChecks g (groupOf g p))) _ (groups-pass (length c) _ (λ g i j. spread-pass g (groupOf g p) (ok .spreads g i j)))
+    (pass-both (groups (length c) (λ g. spreadChecks g (groupOf g p))) _ (groups-pass (length c) _ (λ g i j. spread-to-checks g (groupOf g p) (ok .spreads g i j)))
     (pass-both (askLines h p) _ (lines-pass h p (ok .lines))
     (pass-both (askPlaced p) _ (each-pass _ 15 2 0 p (all-map p (λ l q. both-not (isShort l) (eqb (l .group) 0) (λ t z. q t (eqb-true (l .group) 0 z))) (ok .placed)))
     (groups-pass (length c) _ (λ g i j. (eq-eqb _ _ (ok .claims g i j), tt)))))))

@@ -33,7 +33,7 @@ module _ (p : List Leg) (ranges : All (Ranges 32) p) (few : length p ≤ 256) wh
       → (longAt 1 (at k) (groupOf g p) ≤ mostMills) × (shortAt 1 (at k) (groupOf g p) ≤ mostMills) × (natAbs (net (groupOf g p) k) ≤ mostMills)
   unfolding net
   net-limit g k h =
-      let parts = sides-small k (groupOf g p) (legs-ranges p ranges few g) (omega arith) (legs-few p ranges few g) in
+      let parts = sides-small k (groupOf g p) (legs-ranges p g ranges) (omega arith) (legs-few p g few) in
       (parts .0, parts .1, abs-minus _ _ mostMills (parts .0) (parts .1))
 
   -- not all margins together
@@ -43,7 +43,7 @@ module _ (p : List Leg) (ranges : All (Ranges 32) p) (few : length p ≤ 256) wh
       omega (
         arith,
         total-le n 0 (λ g. marginOf (groupOf g p)) (λ g. sum (λ l. 10000000000000000) (groupOf g p)) (λ g. 0)
-            (λ g a b. omega (arith, margin-bound (groupOf g p) (legs-ranges p ranges few g), sum-fixed 10000000000000000 (groupOf g p))),
+            (λ g a b. omega (arith, margin-bound (groupOf g p) (legs-ranges p g ranges), sum-fixed 10000000000000000 (groupOf g p))),
         by-group-upto (λ l. 10000000000000000) (λ l. l .group) p n,
         sum-bound (λ l. only (leb (l .group) n) 10000000000000000) 10000000000000000 p
             (every p (λ l. only-le (leb (l .group) n) 10000000000000000)),

@@ -15,7 +15,7 @@ use Rattle.records.proofs.ListLaws.{all-map, sum-bound, sum-ext, sum-keep}
 use Rattle.spreads.specs.Prices.{value, longAt, shortAt, at}
 use Rattle.spreads.specs.Strikes.{marginOf}
 use Rattle.spreads.specs.Spreads.{groupOf, Spread}
-use Rattle.spreads.proofs.Cover.{cover, least}
+use Rattle.spreads.proofs.Cover.{cover, nothing-less}
 use Rattle.sheets.specs.Demands.{Covers}
 use Rattle.sheets.specs.Sheets.{claimFor, totalOf, Accepted}
 use Rattle.sheets.proofs.LineLaws.{side-level}
@@ -73,5 +73,5 @@ module _ (h p : List Leg) (c : List Claim) (ok : Accepted h p c) where
   -- and no smaller margin covers any one of its groups
   pub group-least : (g : ℕ) → 1 ≤ g → g ≤ length c → (m : ℕ) → m < claimFor c g → ¬ Covers m (groupOf g p)
   group-least g a b m k covers =
-      let x = least (groupOf g p) m (omega (arith, ok .claims g a b)) in
+      let x = nothing-less (groupOf g p) m (omega (arith, ok .claims g a b)) in
       omega (arith, x .2, covers 1 (omega arith) (at (x .0 .strike)))

@@ -22,7 +22,7 @@ use Rattle.spreads.specs.Calls.{groupsChecks, listedAnswer, marginsCall, margin
 use Rattle.spreads.specs.Spreads.{groupOf, spreadChecks}
 use Rattle.spreads.specs.Strikes.{marginOf}
 use Rattle.spreads.specs.declared.calls.Listed.the-variants.{Entries, Refused}
-use Rattle.spreads.proofs.Answers.{margin-at, length-margins}
+use Rattle.spreads.proofs.MarginLists.{margin-at, length-margins}
 use Rattle.sheets.proofs.Judged.{pass-tables, fields-pass}
 use Rattle.sheets.specs.Sheets.{askClaim, lastChecks, spreadsRule}
 use Rattle.sheets.specs.Steps.{Tabled, askListed, listedChecks}

@@ -18,25 +18,25 @@ use Rattle.spreads.specs.Spreads.{oneOf, doubled, noneDoubled, Spread, s
 
 -- ---- each test and its fact
 
-one-to-value : (field : Leg → ℕ) (legs : List Leg) → oneOf field legs ≡ true → (u : ℕ) × All (λ l. field l ≡ u) legs
+one-of-to-all : (field : Leg → ℕ) (legs : List Leg) → oneOf field legs ≡ true → (u : ℕ) × All (λ l. field l ≡ u) legs
 unfolding oneOf
-one-to-value field [] e = (0, tt)
-one-to-value field (l ∷ ls) e = (field l, (refl, all-map ls (λ k q. eqb-true (field k) (field l) q) (allb-all _ ls e)))
+one-of-to-all field [] e = (0, tt)
+one-of-to-all field (l ∷ ls) e = (field l, (refl, all-map ls (λ k q. eqb-true (field k) (field l) q) (allb-all _ ls e)))
 
-value-to-one : (field : Leg → ℕ) (legs : List Leg) (u : ℕ) → All (λ l. field l ≡ u) legs → oneOf field legs ≡ true
+all-to-one-of : (field : Leg → ℕ) (legs : List Leg) (u : ℕ) → All (λ l. field l ≡ u) legs → oneOf field legs ≡ true
 unfolding oneOf
-value-to-one field [] u a = refl
-value-to-one field (l ∷ ls) u a = all-allb _ ls (all-map ls (λ k q. eq-eqb (field k) (field l) (q ∙ sym (a .0))) (a .1))
+all-to-one-of field [] u a = refl
+all-to-one-of field (l ∷ ls) u a = all-allb _ ls (all-map ls (λ k q. eq-eqb (field k) (field l) (q ∙ sym (a .0))) (a .1))
 
-none-to-series : (legs : List Leg) → noneDoubled legs ≡ true → All (λ a. All (λ b. doubled a b ≡ false) legs) legs
+none-doubled-to-all : (legs : List Leg) → noneDoubled legs ≡ true → All (λ a. All (λ b. doubled a b ≡ false) legs) legs
 unfolding noneDoubled
-none-to-series legs e =
+none-doubled-to-all legs e =
     all-map legs (λ a q. all-map legs (λ b r. not-true (doubled a b) r) (allb-all (λ b. not (doubled a b)) legs q))
     (allb-all (λ a. allb (λ b. not (doubled a b)) legs) legs e)
 
-series-to-none : (legs : List Leg) → All (λ a. All (λ b. doubled a b ≡ false) legs) legs → noneDoubled legs ≡ true
+all-to-none-doubled : (legs : List Leg) → All (λ a. All (λ b. doubled a b ≡ false) legs) legs → noneDoubled legs ≡ true
 unfolding noneDoubled
-series-to-none legs e = all-allb _ legs (all-map legs (λ a q. all-allb (λ b. not (doubled a b)) legs (all-map legs (λ b r. ap not r) q)) e)
+all-to-none-doubled legs e = all-allb _ legs (all-map legs (λ a q. all-allb (λ b. not (doubled a b)) legs (all-map legs (λ b r. ap not r) q)) e)
 
 -- ---- all of them
 
@@ -48,10 +48,10 @@ checks-to-spread g legs p =
     record {
       numbered = within-true 1 32 g (n .0);
       leg = leb-true 1 (length legs) (n .1);
-      underlying = one-to-value (λ l. l .underlying) legs seven;
-      style = one-to-value (λ l. l .style) legs eight;
-      market = one-to-value (λ l. l .market) legs nine;
-      series = none-to-series legs ten;
+      underlying = one-of-to-all (λ l. l .underlying) legs seven;
+      style = one-of-to-all (λ l. l .style) legs eight;
+      market = one-of-to-all (λ l. l .market) legs nine;
+      series = none-doubled-to-all legs ten;
       calls = eqb-true _ _ eleven;
       puts = eqb-true _ _ twelve;
       lives = leb-true _ _ thirteen;
@@ -62,12 +62,12 @@ unfolding spreadChecks
 spread-to-checks g legs s = (
   rw (le-leb 1 g (s .numbered .0), le-leb g 32 (s .numbered .1), le-leb 1 (length legs) (s .leg)) refl,
   (
-    value-to-one _ legs _ (s .underlying .1),
+    all-to-one-of _ legs _ (s .underlying .1),
     (
-      value-to-one _ legs _ (s .style .1),
+      all-to-one-of _ legs _ (s .style .1),
       (
-        value-to-one _ legs _ (s .market .1),
-        (series-to-none legs (s .series), (eq-eqb _ _ (s .calls), (eq-eqb _ _ (s .puts), (le-leb _ _ (s .lives), tt)))),
+        all-to-one-of _ legs _ (s .market .1),
+        (all-to-none-doubled legs (s .series), (eq-eqb _ _ (s .calls), (eq-eqb _ _ (s .puts), (le-leb _ _ (s .lives), tt)))),
       ),
     ),
   ),

@@ -100,11 +100,15 @@ returns-5 c = c .refused5 .ensures ∙ sym (past-9 (c .before .before) ∙ first
 
 returns-6 : tie.Need-returns-6
 unfolding factChecks
-returns-6 c = c .refused6 .ensures ∙ sym (past-10 (c .before .before .before) ∙ first-fails _ _ (sym (c .before .before .balanced .ensures) ∙ not-true _ (c .before .if6 .taken)))
+returns-6 c =
+    let t = c .before in
+    c .refused6 .ensures ∙ sym (past-10 (t .before .before) ∙ first-fails _ _ (sym (t .before .balanced .ensures) ∙ not-true _ (t .if6 .taken)))
 
 returns-7 : tie.Need-returns-7
 unfolding factChecks
-returns-7 c = c .refused7 .ensures ∙ sym (past-11 (c .before .before .before) ∙ first-fails _ _ (sym (c .before .before .balanced2 .ensures) ∙ not-true _ (c .before .if7 .taken)))
+returns-7 c =
+    let t = c .before in
+    c .refused7 .ensures ∙ sym (past-11 (t .before .before) ∙ first-fails _ _ (sym (t .before .balanced2 .ensures) ∙ not-true _ (t .if7 .taken)))
 
 returns-8 : tie.Need-returns-8
 unfolding factChecks
