@@ -12,10 +12,9 @@ use Rattle.records.specs.Chunks.{chunks}
 use Rattle.records.specs.Tables.{tableNumber}
 use Rattle.records.specs.declared.tables.Kind.{Kind}
 use Rattle.records.specs.declared.tables.Kind.the-variants.{Holdings, Placement, Claims}
-use Rattle.records.proofs.ChunkLaws.{length-chunks}
+use Rattle.records.proofs.ChunkLaws.{length-chunks, chunks-append}
 use Rattle.blocks.specs.Block.{blockOf}
 use Rattle.blocks.specs.File.{Tables, tables, tableOf, blockCount, blocksIn, partsOf, numbered, blocksFor}
-use Rattle.blocks.proofs.PartLaws.{chunks-append}
 use Rattle.blocks.proofs.FlatLaws.{numbered-append}
 
 -- the records where the kinds are one, and otherwise none

@@ -10,16 +10,12 @@ use lib.ListN.{length, take, drop, getD, length-take, length-drop, take-append-d
 use lib.Seq.{drop-cons, take-add, take-all, drop-drop}
 use borrow.Author.Tests.{eqb-true}
 use Rattle.records.specs.Bytes.{leAt}
+use Rattle.records.proofs.ListLaws.{all-at}
 use Rattle.blocks.specs.Sums.{checkA, checkB}
 use Rattle.blocks.specs.Block.{zeroIn, kindOf, countOf, recordsIn, sumA, sumB, sumsAgree, formed, zeros, le16, headOf, bodyOf, sealed, blockOf}
 use Rattle.blocks.specs.RoundTrips.{AllBytes}
 use Rattle.blocks.proofs.BlockLaws.{byte-is, Head, formed-is}
 use Rattle.blocks.proofs.SameLaws.{zero-zeros}
-
-pub byte-below : (b : List ℕ) (i : ℕ) → AllBytes b → getD b i 0 < 256
-byte-below [] i a = omega arith
-byte-below (x ∷ b) zero a = a .0
-byte-below (x ∷ b) (suc i) a = byte-below b i (a .1)
 
 -- two bytes are the number that they say
 two-bytes : (b : List ℕ) (at : ℕ) → AllBytes b → at + 2 ≤ length b → take 2 (drop at b) ≡ le16 (leAt b at 2)
@@ -27,8 +23,8 @@ unfolding leAt
 two-bytes b at a h =
     let x = getD b at 0 in
     let y = getD b (at + 1) 0 in
-    let hx : x < 256 = byte-below b at a in
-    let hy : y < 256 = byte-below b (at + 1) a in
+    let hx : x < 256 = all-at (λ n. n < 256) b at 0 a (omega arith) in
+    let hy : y < 256 = all-at (λ n. n < 256) b (at + 1) 0 a (omega arith) in
     let ex : (x + 256 * (y + 256 * 0)) % 256 ≡ x = omega arith in
     let ey : (x + 256 * (y + 256 * 0)) / 256 ≡ y = omega arith in
     rw (ex, ey, drop-cons b at 0 (omega arith), drop-cons b (suc at) 0 (omega arith), ← (add-one at))
@@ -72,10 +68,10 @@ module _ (i n : ℕ) (b : List ℕ) (len : length b ≡ 512) (a : AllBytes b) wh
         let e = 16 + 32 * countOf b in
         let q : 496 ≡ e + (496 - e) = omega arith in
         let z : 480 - length r ≡ 496 - e = omega arith in
-        let cnt : length r / 32 ≡ countOf b = omega arith in
+        let count : length r / 32 ≡ countOf b = omega arith in
         let split : take 496 b ≡ take 16 b ++ r ++ take (496 - e) (drop e b) =
         ap (λ (m : ℕ). take m b) q ∙ take-add e (496 - e) b ∙ ap (λ (l : List ℕ). l ++ take (496 - e) (drop e b)) (take-add 16 (32 * countOf b) b) in
-        rw (take-add 496 12 b, split, z, cnt, head-of (w .0), zero-part b e 496 (w .1) (omega arith) (omega arith), zero-part b 496 508 (w .2) (omega arith) (omega arith))
+        rw (take-add 496 12 b, split, z, count, head-of (w .0), zero-part b e 496 (w .1) (omega arith) (omega arith), zero-part b 496 508 (w .2) (omega arith) (omega arith))
 
     pub block-is : sumsAgree b ≡ true → b ≡ blockOf (kindOf b) i n (recordsIn b)
     unfolding blockOf sealed sumsAgree

@@ -1,6 +1,6 @@
 -- A file's blocks: those before block i, a kind's records in them, and which size they have.
 use mathlib.Core.Path.{_≡_, refl, sym, ap, _∙_}
-use mathlib.Core.Bool.{true, _&&_, and-eq-true-iff}
+use mathlib.Core.Bool.{true, and-eq-true-iff}
 use mathlib.Core.List.{List, [], _∷_, _++_, append-assoc}
 use Prim.Native.Nat.{ℕ, zero, suc, _+_, _-_, _*_, _/_, _%_, _≤_, _<_}
 use native.Mathlib.Numerals.{add-one}
@@ -8,17 +8,18 @@ use native.Mathlib.Omega.{arith}
 use lib.Dec.{eqb, leb}
 use lib.ListN.{length, take, drop, length-append, length-take, length-drop}
 use lib.Seq.{drop-drop}
-use borrow.Author.Tests.{eqb-true, leb-true, eq-eqb}
+use borrow.Author.Tests.{eqb-true, eq-eqb}
 use Rattle.records.specs.Chunks.{chunkAt, chunksFrom}
+use Rattle.records.specs.Dates.{within}
 use Rattle.records.specs.Lists.{All}
 use Rattle.records.specs.Tables.{wholeTable, limitOf, tableNumber}
 use Rattle.records.specs.declared.tables.Kind.{Kind}
-use Rattle.records.proofs.ListLaws.{only-le}
-use Rattle.records.proofs.ChunkLaws.{chunks-all, chunks-step, chunks-none}
+use Rattle.records.proofs.ListLaws.{only-le, take-part}
+use Rattle.records.proofs.ChunkLaws.{chunks-all, chunks-step, chunks-none, all-chunk}
+use Rattle.records.proofs.TableLaws.{within-true}
 use Rattle.blocks.specs.Block.{kindOf, countOf}
 use Rattle.blocks.specs.File.{wholeFile, blocksOf, countAs, recordsAs, joined}
 use Rattle.blocks.specs.Steps.{Sized}
-use Rattle.blocks.proofs.PartLaws.{take-part, all-chunk}
 
 -- so many whole records are a whole table just where they are within its limit
 pub fits-is : (kind : Kind) (n : ℕ) → wholeTable kind (32 * n) ≡ leb n (limitOf kind)
@@ -28,9 +29,9 @@ fits-is kind n =
 
 pub whole-file : (bytes : ℕ) → wholeFile bytes ≡ true → (bytes % 512 ≡ 0) × (1 ≤ bytes / 512) × (bytes / 512 ≤ 39)
 whole-file bytes e =
-    let p = and-eq-true-iff (eqb (bytes % 512) 0) (leb 1 (bytes / 512) && leb (bytes / 512) 39) .0 e in
-    let q = and-eq-true-iff (leb 1 (bytes / 512)) (leb (bytes / 512) 39) .0 (p .1) in
-    (eqb-true (bytes % 512) 0 (p .0), leb-true 1 (bytes / 512) (q .0), leb-true (bytes / 512) 39 (q .1))
+    let p = and-eq-true-iff (eqb (bytes % 512) 0) (within 1 39 (bytes / 512)) .0 e in
+    let w = within-true 1 39 (bytes / 512) (p .1) in
+    (eqb-true (bytes % 512) 0 (p .0), w .0, w .1)
 
 -- ---- block i and those before it
 

@@ -9,11 +9,10 @@ use lib.Seq.{take-at, drop-at}
 use Rattle.records.specs.Chunks.{chunks}
 use Rattle.records.specs.Lists.{All}
 use Rattle.records.proofs.ListLaws.{all-append}
-use Rattle.records.proofs.ChunkLaws.{length-chunks}
+use Rattle.records.proofs.ChunkLaws.{length-chunks, chunks-short}
 use Rattle.blocks.specs.Block.{blockOf}
 use Rattle.blocks.specs.File.{Tables, blockCount, blocksIn, partsOf, numbered, blocksFor, flat, fileOf}
 use Rattle.blocks.proofs.BlockLaws.{length-block}
-use Rattle.blocks.proofs.PartLaws.{chunks-short}
 
 pub flat-append : (a b : List (List ℕ)) → flat (a ++ b) ≡ flat a ++ flat b
 unfolding flat

@@ -1,6 +1,5 @@
 pub mod SumLaws
 pub mod SameLaws
-pub mod PartLaws
 pub mod BlockLaws
 pub mod FileLaws
 pub mod ScanLaws

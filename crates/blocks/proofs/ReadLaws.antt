@@ -11,7 +11,7 @@ use Rattle.records.specs.declared.refusals.Refusal.{Refusal}
 use Rattle.records.specs.declared.refusals.Fault.{Fault}
 use Rattle.records.specs.declared.refusals.Fault.the-variants.{Nothing, Is}
 use Rattle.records.specs.declared.tables.Kind.the-variants.{Holdings, Placement, Claims}
-use Rattle.records.proofs.OrderLaws.{orElse, first-append}
+use Rattle.records.proofs.OrderLaws.{orElse, first-append, first-then, first-stop}
 use Rattle.blocks.specs.File.{wholeFile, blocksOf, tablesIn, blocksChecks, fileChecks, recordChecks}
 use Rattle.blocks.specs.Reader.{reading, countsOf, readChecks, readRoom, readOf}
 use Rattle.blocks.specs.Steps.{scanOf, judged}
@@ -86,14 +86,18 @@ pub judged-good : (f : List ℕ) (n : Counts) → judged f ≡ Read n → (first
 unfolding judged
 judged-good f n e = reading-read _ _ n e
 
+pub judged-refused : (f : List ℕ) (r : Refusal) → judged f ≡ Refused r → firstOf (readChecks f) ≡ Is r
+unfolding judged
+judged-refused f r e = reading-refused (firstOf (readChecks f)) (countsOf (tablesIn f)) r e
+
 pub read-refused : (f : List ℕ) (h p c : ℕ) (r : Refusal) → judged f ≡ Refused r → readOf f h p c ≡ Refused r
-unfolding judged readOf
-read-refused f h p c r e = rw (first-append (readChecks f) (readRoom (tablesIn f) h p c), reading-refused (firstOf (readChecks f)) (countsOf (tablesIn f)) r e)
+unfolding readOf
+read-refused f h p c r e = rw (first-stop (readChecks f) (readRoom (tablesIn f) h p c) r (judged-refused f r e))
 
 module _ (f : List ℕ) (h p c : ℕ) (good : firstOf (readChecks f) ≡ Nothing) where
   read-room : readOf f h p c ≡ reading (firstOf (readRoom (tablesIn f) h p c)) (countsOf (tablesIn f))
   unfolding readOf
-  read-room = rw (first-append (readChecks f) (readRoom (tablesIn f) h p c), good)
+  read-room = rw (first-then (readChecks f) (readRoom (tablesIn f) h p c) good)
 
   pub read-done : length (tablesIn f .holdings) ≤ h → length (tablesIn f .placement) ≤ p → length (tablesIn f .claims) ≤ c
       → readOf f h p c ≡ Read (countsOf (tablesIn f))

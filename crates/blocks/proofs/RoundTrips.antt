@@ -1,16 +1,15 @@
 -- The round trips of files: specs/RoundTrips.antt's statements, proved.
 use mathlib.Core.Path.{_≡_, sym, ap, _∙_}
-use mathlib.Core.Bool.{true, _&&_, not}
+use mathlib.Core.Bool.{true}
 use mathlib.Core.List.{List, [], _∷_, _++_, append-assoc, append-nil, reverseAux, reverse, reverse-reverse}
-use Prim.Native.Nat.{ℕ, zero, suc, _+_, _/_, _%_, _≤_, _<_}
+use Prim.Native.Nat.{ℕ, _/_, _%_, _≤_, _<_}
 use native.Mathlib.Omega.{arith}
-use lib.Dec.{eqb, eqb·suc-zero}
 use lib.ListN.{length, length-reverse}
 use borrow.Author.Tests.{eq-eqb, le-leb}
 use Rattle.records.specs.Chunks.{chunks}
 use Rattle.records.specs.declared.tables.Kind.{Kind}
 use Rattle.records.specs.declared.tables.Kind.the-variants.{Holdings, Placement, Claims}
-use Rattle.records.proofs.ChunkLaws.{length-chunks}
+use Rattle.records.proofs.ChunkLaws.{length-chunks, chunks-whole, chunks-each}
 use Rattle.records.proofs.OrderLaws.{Pass, clear, unclear, pass-left, pass-right, pass-both}
 use Rattle.blocks.specs.File.{Tables, tables, tableOf, wholeFile, blocksOf, joined, tablesIn, blocksChecks, fileChecks, blocksIn, blocksFor, flat, fileOf, recordChecks}
 use Rattle.blocks.specs.Writer.{takenTables, writeChecks, filled}
@@ -18,14 +17,13 @@ use Rattle.blocks.specs.Reader.{readChecks, leaves}
 use Rattle.blocks.specs.RoundTrips.{Writes, Reads, AllBytes, WrittenReadsBack, ReadWritesBack, CallsReadBack, CallsWriteBack}
 use Rattle.blocks.proofs.FileLaws.{joinedBack, whole-file}
 use Rattle.blocks.proofs.FlatLaws.{cut-joined, join-cut, blocks-whole, blocks-count, length-file}
-use Rattle.blocks.proofs.PartLaws.{chunks-whole, chunks-each}
 use Rattle.blocks.proofs.ReadLaws.{read-done}
 use Rattle.blocks.proofs.SoundFile.{Sound, sound, whole-table}
 use Rattle.blocks.proofs.State.{State, start}
 use Rattle.blocks.proofs.ReadTrip.{read-all}
 use Rattle.blocks.proofs.WriteStep.{pass-reversed}
 use Rattle.blocks.proofs.WriteTrip.{reach}
-use Rattle.blocks.proofs.WriteLaws.{Taken, taken-is, write-done}
+use Rattle.blocks.proofs.WriteLaws.{Taken, taken-is, some-not-empty, write-done}
 
 -- ---- turned around
 
@@ -91,12 +89,6 @@ written-reads-back t w = (reads t w, tables-back t w)
 
 -- ---- read, then written
 
-some-not : (h p c : ℕ) → 1 ≤ h + p + c → not (eqb h 0 && eqb p 0 && eqb c 0) ≡ true
-some-not zero zero zero h = absurd (omega arith)
-some-not zero zero (suc c) h = rw (eqb·suc-zero c)
-some-not zero (suc p) c h = rw (eqb·suc-zero p)
-some-not (suc h) p c e = rw (eqb·suc-zero h)
-
 module _ (f : List ℕ) (a : AllBytes f) (r : Reads f) where
   both : Pass (fileChecks f) × Pass (recordChecks (tablesIn f))
   unfolding readChecks
@@ -137,7 +129,7 @@ module _ (f : List ℕ) (a : AllBytes f) (r : Reads f) where
       let w = whole-file (length f) (fine .whole) in
       let l = ap length (sym file-back) ∙ length-file (tablesIn f) in
       rw (whole-table f fine Holdings, whole-table f fine Placement, whole-table f fine Claims)
-      (some-not (length (joined Holdings (blocksOf f))) (length (joined Placement (blocksOf f))) (length (joined Claims (blocksOf f))) (omega (arith, l, w .1)))
+      (some-not-empty (length (joined Holdings (blocksOf f))) (length (joined Placement (blocksOf f))) (length (joined Claims (blocksOf f))) (omega (arith, l, w .1)))
 
   writes : Writes (tablesIn f)
   unfolding writeChecks

@@ -12,13 +12,13 @@ use Rattle.records.specs.Tables.{limitOf, wholeTable}
 use Rattle.records.specs.declared.refusals.Fault.the-variants.{Nothing}
 use Rattle.records.specs.declared.tables.Kind.{Kind}
 use Rattle.records.specs.declared.tables.Kind.the-variants.{Holdings, Placement, Claims}
+use Rattle.records.proofs.ChunkLaws.{chunks-whole}
 use Rattle.records.proofs.OrderLaws.{Pass, clear, unclear, pass-left}
 use Rattle.blocks.specs.File.{wholeFile, blocksOf, countAs, recordsAs, joined, tablesIn, withinLimits, blockChecks, blocksChecks, fileChecks, recordChecks}
 use Rattle.blocks.specs.Reader.{readChecks}
 use Rattle.blocks.specs.Steps.{Sized, soFar}
 use Rattle.blocks.proofs.BlockLaws.{formed-is}
 use Rattle.blocks.proofs.FileLaws.{whole-file, length-recordsAs}
-use Rattle.blocks.proofs.PartLaws.{chunks-whole}
 use Rattle.blocks.proofs.ScanLaws.{in-limits}
 
 -- ---- the blocks

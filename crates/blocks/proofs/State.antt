@@ -27,6 +27,11 @@ pub record State (n : ℕ) (before : List (List ℕ)) (t : Tables) : Type 0 wher
   pub last : (k : Kind) → kindOf (prevOf before) ≡ tableNumber k
       → (length (tableOf k t) % 480 ≡ 32 * countOf (prevOf before) % 480) × (1 ≤ length (tableOf k t)) × (1 ≤ countOf (prevOf before)) × (countOf (prevOf before) ≤ 15)
 
+pub number-range : (kind : Kind) → (1 ≤ tableNumber kind) × (tableNumber kind ≤ 3)
+number-range Holdings = (omega arith, omega arith)
+number-range Placement = (omega arith, omega arith)
+number-range Claims = (omega arith, omega arith)
+
 pub none-of : (k : Kind) → tableOf k (tables [] [] []) ≡ []
 none-of Holdings = refl
 none-of Placement = refl
@@ -42,18 +47,8 @@ start n =
       sums = λ k. rw (none-of k);
       range = omega arith;
       later = λ k h. none-of k;
-      last = λ k e. absurd (positive k e);
+      last = λ k e. absurd (omega (arith, number-range k .0));
     }
-  where
-    positive : (k : Kind) → 0 ≡ tableNumber k → ⊥
-    positive Holdings e = omega arith
-    positive Placement e = omega arith
-    positive Claims e = omega arith
-
-pub number-range : (kind : Kind) → (1 ≤ tableNumber kind) × (tableNumber kind ≤ 3)
-number-range Holdings = (omega arith, omega arith)
-number-range Placement = (omega arith, omega arith)
-number-range Claims = (omega arith, omega arith)
 
 -- the kind with a number
 pub kind-from : (m : ℕ) → 1 ≤ m → m ≤ 3 → (kind : Kind) × (m ≡ tableNumber kind)

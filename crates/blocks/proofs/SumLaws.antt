@@ -7,23 +7,21 @@ use native.Mathlib.Numerals.{add-one}
 use native.Mathlib.Omega.{arith}
 use lib.ListN.{length, take, getD, length-append}
 use lib.Seq.{take-suc}
+use Rattle.records.specs.Lists.{sum}
+use Rattle.records.proofs.ListLaws.{sum-append}
 use Rattle.blocks.specs.Sums.{byteSum, weightedSum}
 
-pub byteSum-snoc : (xs : List ℕ) (x : ℕ) → byteSum (xs ++ (x ∷ [])) ≡ byteSum xs + x
-unfolding byteSum
-byteSum-snoc [] x = omega arith
-byteSum-snoc (y ∷ ys) x = omega (arith, byteSum-snoc ys x)
-
 -- one byte more adds the sum of all so far: each weight grows by one
-pub weightedSum-snoc : (xs : List ℕ) (x : ℕ) → weightedSum (xs ++ (x ∷ [])) ≡ weightedSum xs + (byteSum xs + x)
-unfolding byteSum weightedSum
+weightedSum-snoc : (xs : List ℕ) (x : ℕ) → weightedSum (xs ++ (x ∷ [])) ≡ weightedSum xs + (byteSum xs + x)
+unfolding sum weightedSum
 weightedSum-snoc [] x = omega arith
 weightedSum-snoc (y ∷ ys) x =
     rw (length-append ys (x ∷ [])) (omega (arith, weightedSum-snoc ys x, suc-mul (length ys) y, suc-mul (suc (length ys)) y))
 
 module _ (s : List ℕ) (i : ℕ) (h : i < length s) where
   pub byteSum-more : byteSum (take (i + 1) s) ≡ byteSum (take i s) + getD s i 0
-  byteSum-more = rw (add-one, take-suc s i 0, byteSum-snoc)
+  unfolding sum
+  byteSum-more = rw (add-one, take-suc s i 0, sum-append (λ b. b) (take i s) (getD s i 0 ∷ [])) (omega arith)
 
   pub weightedSum-more : weightedSum (take (i + 1) s) ≡ weightedSum (take i s) + (byteSum (take i s) + getD s i 0)
   weightedSum-more = rw (add-one, take-suc s i 0, weightedSum-snoc)

@@ -3,10 +3,9 @@ use mathlib.Core.Path.{_≡_, sym, ap, _∙_}
 use mathlib.Core.Bool.{true, false, _&&_, not, and-eq-true-iff, false≢true}
 use mathlib.Core.List.{List, [], _∷_, _++_, append-assoc}
 use Prim.Native.Nat.{ℕ, zero, suc, _+_, _-_, _*_, _%_, _≤_, _<_, min}
-use native.Mathlib.Numerals.{add-one}
 use native.Mathlib.Omega.{arith}
 use lib.ListN.{length, take, drop, length-append, length-take, length-drop}
-use lib.Dec.{eqb}
+use lib.Dec.{eqb, eqb·suc-zero}
 use borrow.Author.Tests.{le-leb, lt-leb}
 use borrow.Rule.Slice.PartMut.{putMid}
 use Rattle.records.specs.Chunks.{chunks, chunkAt}
@@ -17,7 +16,8 @@ use Rattle.records.specs.declared.refusals.Fault.the-variants.{Nothing, Is}
 use Rattle.records.specs.declared.tables.Kind.the-variants.{Holdings, Placement, Claims}
 use Rattle.records.proofs.OrderLaws.{first-append}
 use Rattle.records.proofs.TableLaws.{whole}
-use Rattle.records.proofs.ChunkLaws.{length-chunks}
+use Rattle.records.proofs.ListLaws.{take-min}
+use Rattle.records.proofs.ChunkLaws.{chunks-more, length-chunks, chunks-short}
 use Rattle.records.proofs.PutLaws.{put-next, put-put}
 use Rattle.blocks.specs.Block.{blockOf}
 use Rattle.blocks.specs.File.{Tables, tables, blockCount, blocksIn, numbered, blocksFor, flat, blocksOfKind, fileOf, recordChecks}
@@ -25,7 +25,6 @@ use Rattle.blocks.specs.Writer.{takenTables, writeChecks, writeRoom, wri
 use Rattle.blocks.specs.declared.writer.Writing.the-variants.{Wrote, Refused}
 use Rattle.blocks.proofs.BlockLaws.{length-block}
 use Rattle.blocks.proofs.FlatLaws.{flat-append, flat-one, length-flat, numbered-append, length-numbered, numbered-whole, length-file}
-use Rattle.blocks.proofs.PartLaws.{take-min, chunks-snoc, chunks-short}
 
 -- the bytes of the first k blocks of a kind
 abbrev pub writtenTo : ℕ → ℕ → ℕ → List ℕ → ℕ → List ℕ
@@ -40,8 +39,7 @@ written-more : (kind i n : ℕ) (xs : List ℕ) (k : ℕ) → writtenTo kind i n
 unfolding numbered
 written-more kind i n xs k =
     rw (
-      add-one k,
-      chunks-snoc 480 k xs,
+      chunks-more 480 k xs,
       numbered-append kind i n (chunks 480 k xs) (chunkAt 480 xs k ∷ []),
       length-chunks 480 k xs,
       flat-append (numbered kind i n (chunks 480 k xs)) (blockOf kind (i + k) n (chunkAt 480 xs k) ∷ []),
@@ -102,11 +100,18 @@ pub record Taken (h p c : ℕ) : Type 0 where
   pub claims : (c % 32 ≡ 0) × (c ≤ 1024)
   pub some : 1 ≤ h + p + c
 
-not-all : (h p c : ℕ) → not (eqb h 0 && eqb p 0 && eqb c 0) ≡ true → 1 ≤ h + p + c
-not-all zero zero zero e = absurd (false≢true e)
-not-all zero zero (suc c) e = omega arith
-not-all zero (suc p) c e = omega arith
-not-all (suc h) p c e = omega arith
+-- not all three are empty just where there is something in them
+not-empty-some : (h p c : ℕ) → not (eqb h 0 && eqb p 0 && eqb c 0) ≡ true → 1 ≤ h + p + c
+not-empty-some zero zero zero e = absurd (false≢true e)
+not-empty-some zero zero (suc c) e = omega arith
+not-empty-some zero (suc p) c e = omega arith
+not-empty-some (suc h) p c e = omega arith
+
+pub some-not-empty : (h p c : ℕ) → 1 ≤ h + p + c → not (eqb h 0 && eqb p 0 && eqb c 0) ≡ true
+some-not-empty zero zero zero e = absurd (omega arith)
+some-not-empty zero zero (suc c) e = rw (eqb·suc-zero c)
+some-not-empty zero (suc p) c e = rw (eqb·suc-zero p)
+some-not-empty (suc h) p c e = rw (eqb·suc-zero h)
 
 pub taken-is : (h p c : ℕ) → takenTables h p c ≡ true → Taken h p c
 unfolding takenTables
@@ -121,7 +126,7 @@ taken-is h p c e =
       holdings = (wh .0, omega (arith, wh .0, wh .1));
       placement = (wp .0, omega (arith, wp .0, wp .1));
       claims = (wc .0, omega (arith, wc .0, wc .1));
-      some = not-all h p c (t .1);
+      some = not-empty-some h p c (t .1);
     }
 
 module _ (t : Tables) (room : ℕ) where

@@ -1,12 +1,13 @@
--- Laws of sums, greatest values, choices and claims about all, over any list.
-use mathlib.Core.Path.{_≡_, refl}
+-- Laws of sums, greatest values, choices, claims about all and parts, over any list.
+use mathlib.Core.Path.{_≡_, refl, sym, ap, _∙_}
 use mathlib.Core.Bool.{Bool, true, false, cond, not, and-eq-true-iff}
 use mathlib.Core.List.{List, [], _∷_, _++_, map, List·Memᴰ, List·Memᴰ·head, List·Memᴰ·tail}
-use Prim.Native.Nat.{ℕ, zero, suc, _+_, _*_, _≤_, _<_}
+use Prim.Native.Nat.{ℕ, zero, suc, _+_, _-_, _*_, _≤_, _<_, min}
 use native.Mathlib.Nat.{le-trans, le-max-left, le-max-right, not-suc-le-zero, le-of-suc-le-suc}
 use native.Mathlib.Decide.{decLe}
 use native.Mathlib.Omega.{arith}
-use lib.ListN.{length, getD}
+use lib.ListN.{length, getD, take, drop}
+use lib.Seq.{take-all, take-add, take-take, drop-at, length-take-le}
 use Rattle.records.specs.Lists.{only, sum, most, keep, allb, All}
 
 pub only-split : (b : Bool) (n : ℕ) → n ≡ only b n + only (not b) n
@@ -154,3 +155,31 @@ module _ {A : Type 0} where
   unfolding allb
   all-allb t [] a = refl
   all-allb t (x ∷ xs) a = rw (a .0) (all-allb t xs (a .1))
+
+  -- ---- parts
+
+  -- two counts take the same where both reach the end, or are one
+  pub take-min : (m n : ℕ) (l : List A) → m ≡ min n (length l) → take m l ≡ take n l
+  take-min m n l e =
+      elim (decLe n (length l)) [
+        | yes h ↦ let q : m ≡ n = omega arith in rw q
+        | no h ↦ take-all m l (omega arith) ∙ sym (take-all n l (omega arith))
+      ]
+
+  -- a part of a part, which lies wholly in it
+  pub take-part : (k m size : ℕ) (l : List A) → k + m ≤ size → k ≤ length l → take m (drop k (take size l)) ≡ take m (drop k l)
+  take-part k m size l h g =
+      let q : size ≡ k + (size - k) = omega arith in
+      let e : drop k (take size l) ≡ take (size - k) (drop k l) =
+      ap (λ (n : ℕ). drop k (take n l)) q ∙ rw (take-add k (size - k) l) (drop-at (take k l) (take (size - k) (drop k l)) k (length-take-le k l g)) in
+      rw e (take-take m (size - k) (drop k l) (omega arith))
+
+  pub all-take : (P : A → Type 0) (n : ℕ) (l : List A) → All P l → All P (take n l)
+  all-take P zero l a = tt
+  all-take P (suc n) [] a = tt
+  all-take P (suc n) (x ∷ l) a = (a .0, all-take P n l (a .1))
+
+  pub all-drop : (P : A → Type 0) (n : ℕ) (l : List A) → All P l → All P (drop n l)
+  all-drop P zero l a = a
+  all-drop P (suc n) [] a = tt
+  all-drop P (suc n) (x ∷ l) a = all-drop P n l (a .1)

@@ -1,48 +1,40 @@
 -- The verdict on a file, by the reader's answer for tables that have room for every sheet.
 use Prim.Native.Nat.{ℕ, _*_, _≤_}
-use mathlib.Core.Path.{_≡_, refl, sym, _∙_}
+use mathlib.Core.Path.{_≡_, sym, _∙_}
 use mathlib.Core.List.{List}
 use native.Mathlib.Omega.{arith}
 use lib.ListN.{length, take}
 use Rattle.records.specs.Order.{firstOf}
 use Rattle.records.specs.declared.refusals.Refusal.{Refusal}
-use Rattle.records.specs.declared.refusals.Fault.{Fault}
-use Rattle.records.specs.declared.refusals.Fault.the-variants.{Nothing, Is}
+use Rattle.records.specs.declared.refusals.Fault.the-variants.{Nothing}
 use Rattle.records.specs.declared.tables.Kind.the-variants.{Holdings, Placement, Claims}
 use Rattle.records.proofs.PutLaws.{length-putAt, put-front}
 use Rattle.blocks.specs.File.{tablesIn}
-use Rattle.blocks.specs.Reader.{readChecks, countsOf, reading, readOf, leaves}
+use Rattle.blocks.specs.Reader.{readChecks, countsOf, readOf, leaves}
+use Rattle.blocks.specs.Steps.{judged}
 use Rattle.blocks.specs.declared.reader.Counts.{Counts}
 use Rattle.blocks.specs.declared.reader.Reading.the-variants.{Read, Refused as Refused-reading}
-use Rattle.blocks.proofs.ReadLaws.{Bytes, read-bytes}
+use Rattle.blocks.proofs.ReadLaws.{Bytes, read-bytes, judged-good, judged-refused}
 use Rattle.blocks.proofs.TablesFit.{read-roomy}
 use Rattle.sheets.specs.Verdicts.{verdictOf}
 use Rattle.sheets.specs.declared.sheet.Verdict.the-variants.{Refused}
 use Rattle.verdicts.specs.FileVerdicts.{fileVerdict}
 
-reading-refused : (f : Fault) (n : Counts) (r : Refusal) → reading f n ≡ Refused-reading r → f ≡ Is r
-reading-refused Nothing n r e = let z : _≡_ {A = ℕ} 0 1 = cc in absurd (omega arith)
-reading-refused (Is q) n r e = cc
-
-reading-read : (f : Fault) (n m : Counts) → reading f n ≡ Read m → (f ≡ Nothing) × (m ≡ n)
-reading-read Nothing n m e = (refl, (cc))
-reading-read (Is q) n m e = let z : _≡_ {A = ℕ} 0 1 = cc in absurd (omega arith)
-
 module _ (file : List ℕ) where
   -- tables for 256, 256 and 32 records have room for every sheet
-  read-whole : readOf file 8192 8192 1024 ≡ reading (firstOf (readChecks file)) (countsOf (tablesIn file))
+  read-whole : readOf file 8192 8192 1024 ≡ judged file
   read-whole = read-roomy file 8192 8192 1024 (omega arith) (omega arith) (omega arith)
 
   pub file-refused : (r : Refusal) → readOf file 8192 8192 1024 ≡ Refused-reading r → Refused r ≡ fileVerdict file
   unfolding fileVerdict
-  file-refused r e = rw (reading-refused (firstOf (readChecks file)) (countsOf (tablesIn file)) r (sym read-whole ∙ e)) refl
+  file-refused r e = rw (judged-refused file r (sym read-whole ∙ e))
 
   module _ (n : Counts) (e : readOf file 8192 8192 1024 ≡ Read n) where
-    passed : firstOf (readChecks file) ≡ Nothing
-    passed = reading-read (firstOf (readChecks file)) (countsOf (tablesIn file)) n (sym read-whole ∙ e) .0
+    passed : (firstOf (readChecks file) ≡ Nothing) × (countsOf (tablesIn file) ≡ n)
+    passed = judged-good file n (sym read-whole ∙ e)
 
     bytes : Bytes file n
-    bytes = read-bytes file n passed (reading-read (firstOf (readChecks file)) (countsOf (tablesIn file)) n (sym read-whole ∙ e) .1)
+    bytes = read-bytes file n (passed .0) (sym (passed .1))
 
     module _ (d₁ d₂ d₃ h p c : List ℕ) (e₁ : h ≡ leaves (Read n) Holdings file d₁) (e₂ : p ≡ leaves (Read n) Placement file d₂)
         (e₃ : c ≡ leaves (Read n) Claims file d₃) where
@@ -51,7 +43,7 @@ module _ (file : List ℕ) where
       file-read =
           let b = bytes in
           rw (
-            passed,
+            passed .0,
             e₁,
             e₂,
             e₃,
@@ -61,7 +53,7 @@ module _ (file : List ℕ) where
             put-front d₁ (tablesIn file .holdings),
             put-front d₂ (tablesIn file .placement),
             put-front d₃ (tablesIn file .claims),
-          ) refl
+          )
 
       pub file-room : length d₁ ≡ 8192 → length d₂ ≡ 8192 → length d₃ ≡ 1024
           → (32 * n .holdings ≤ length h) × (32 * n .placement ≤ length p) × (32 * n .claims ≤ length c)

@@ -5,6 +5,7 @@ use native.Mathlib.Omega.{arith}
 use borrow.Author.Needs.{needs}
 use lib.ListN.{length, take}
 use lib.Seq.{take-all}
+use Rattle.records.specs.Lists.{sum}
 use Rattle.blocks.specs.Sums.{byteSum, weightedSum, checkA, checkB}
 use Rattle.blocks.proofs.SumLaws.{byteSum-more, weightedSum-more}
 use Rattle.blocks.proofs.checks.sums_of.Statement.{statement}
@@ -18,7 +19,7 @@ abbrev μ-loop : tie.MeasureT-loop
 μ-loop s a₀ b₀ i₀ a b i = length s - i
 
 loop-holds : tie.Need-loop-holds Inv-loop μ-loop
-unfolding byteSum weightedSum
+unfolding sum weightedSum
 loop-holds c = search needs
 
 loop-again : tie.Need-loop-again Inv-loop μ-loop
