@@ -55,15 +55,15 @@ module _ (i n : ℕ) (b : List ℕ) (len : length b ≡ 512) (a : AllBytes b) wh
       )
 
   module _ (f : formed i n b ≡ true) where
-    pub block-count : length (recordsIn b) ≡ 32 * countOf b
+    pub block-count : length (recordsIn (countOf b) b) ≡ 32 * countOf b
     block-count = simp (length-take, length-drop) (omega (arith, formed-is i n b f .0 .count .1))
 
-    body-of : take 508 b ≡ bodyOf (kindOf b) i n (recordsIn b)
+    body-of : take 508 b ≡ bodyOf (kindOf b) i n (recordsIn (countOf b) b)
     unfolding bodyOf
     body-of =
         let w = formed-is i n b f in
         let few = w .0 .count .1 in
-        let r = recordsIn b in
+        let r = recordsIn (countOf b) b in
         let lr = block-count in
         let e = 16 + 32 * countOf b in
         let q : 496 ≡ e + (496 - e) = omega arith in
@@ -73,7 +73,7 @@ module _ (i n : ℕ) (b : List ℕ) (len : length b ≡ 512) (a : AllBytes b) wh
         ap (λ (m : ℕ). take m b) q ∙ take-add e (496 - e) b ∙ ap (λ (l : List ℕ). l ++ take (496 - e) (drop e b)) (take-add 16 (32 * countOf b) b) in
         rw (take-add 496 12 b, split, z, count, head-of (w .0), zero-part b e 496 (w .1) (omega arith) (omega arith), zero-part b 496 508 (w .2) (omega arith) (omega arith))
 
-    pub block-is : sumsAgree b ≡ true → b ≡ blockOf (kindOf b) i n (recordsIn b)
+    pub block-is : sumsAgree b ≡ true → b ≡ blockOf (kindOf b) i n (recordsIn (countOf b) b)
     unfolding blockOf sealed sumsAgree
     block-is s =
         let p = and-eq-true-iff (eqb (sumA b) (checkA (take 508 b))) (eqb (sumB b) (checkB (take 508 b))) .0 s in

@@ -1,6 +1,6 @@
 -- Blocks joined to a file: how many bytes they are, and cut again; and those that the writer makes of three tables.
 use mathlib.Core.Path.{_≡_, refl, sym, ap, _∙_}
-use mathlib.Core.List.{List, [], _∷_, _++_, append-assoc, append-nil}
+use mathlib.Core.List.{List, [], _∷_, _++_, append-assoc, append-nil, flatten}
 use Prim.Native.Nat.{ℕ, zero, suc, _+_, _*_, _≤_}
 use native.Mathlib.Nat.{mul-suc}
 use native.Mathlib.Omega.{arith}
@@ -11,30 +11,30 @@ use Rattle.records.specs.Lists.{All}
 use Rattle.records.proofs.ListLaws.{all-append}
 use Rattle.records.proofs.ChunkLaws.{length-chunks, chunks-short}
 use Rattle.blocks.specs.Block.{blockOf}
-use Rattle.blocks.specs.File.{Tables, blockCount, blocksIn, partsOf, numbered, blocksFor, flat, fileOf}
+use Rattle.blocks.specs.File.{Tables, blockCount, blocksIn, partsOf, numbered, blocksFor, fileOf}
 use Rattle.blocks.proofs.BlockLaws.{length-block}
 
-pub flat-append : (a b : List (List ℕ)) → flat (a ++ b) ≡ flat a ++ flat b
-unfolding flat
-flat-append [] b = refl
-flat-append (x ∷ a) b = rw (flat-append a b) (sym (append-assoc x (flat a) (flat b)))
+pub flatten-append : (a b : List (List ℕ)) → flatten (a ++ b) ≡ flatten a ++ flatten b
+unfolding flatten
+flatten-append [] b = refl
+flatten-append (x ∷ a) b = rw (flatten-append a b) (sym (append-assoc x (flatten a) (flatten b)))
 
-pub flat-one : (b : List ℕ) → flat (b ∷ []) ≡ b
-unfolding flat
-flat-one b = append-nil b
+pub flatten-one : (b : List ℕ) → flatten (b ∷ []) ≡ b
+unfolding flatten
+flatten-one b = append-nil b
 
-pub length-flat : (bs : List (List ℕ)) → All (λ b. length b ≡ 512) bs → length (flat bs) ≡ 512 * length bs
-unfolding flat
-length-flat [] l = refl
-length-flat (b ∷ bs) l = simp (length-append, length-flat bs (l .1), l .0) (omega (arith, mul-suc 512 (length bs)))
+pub length-flatten : (bs : List (List ℕ)) → All (λ b. length b ≡ 512) bs → length (flatten bs) ≡ 512 * length bs
+unfolding flatten
+length-flatten [] l = refl
+length-flatten (b ∷ bs) l = simp (length-append, length-flatten bs (l .1), l .0) (omega (arith, mul-suc 512 (length bs)))
 
-pub cut-joined : (bs : List (List ℕ)) → All (λ b. length b ≡ 512) bs → chunks 512 (length bs) (flat bs) ≡ bs
-unfolding chunks flat
+pub cut-joined : (bs : List (List ℕ)) → All (λ b. length b ≡ 512) bs → chunks 512 (length bs) (flatten bs) ≡ bs
+unfolding chunks flatten
 cut-joined [] l = refl
-cut-joined (b ∷ bs) l = rw (take-at b (flat bs) 512 (l .0), drop-at b (flat bs) 512 (l .0), cut-joined bs (l .1))
+cut-joined (b ∷ bs) l = rw (take-at b (flatten bs) 512 (l .0), drop-at b (flatten bs) 512 (l .0), cut-joined bs (l .1))
 
-pub join-cut : (n : ℕ) (f : List ℕ) → length f ≡ 512 * n → flat (chunks 512 n f) ≡ f
-unfolding chunks flat
+pub join-cut : (n : ℕ) (f : List ℕ) → length f ≡ 512 * n → flatten (chunks 512 n f) ≡ f
+unfolding chunks flatten
 join-cut zero [] e = refl
 join-cut zero (x ∷ f) e = absurd (omega arith)
 join-cut (suc n) f e =
@@ -76,4 +76,4 @@ blocks-count n t = simp (length-append, length-numbered, length-chunks) (omega a
 pub length-file : (t : Tables) → length (fileOf t) ≡ 512 * blocksIn t
 unfolding fileOf
 length-file t =
-    length-flat (blocksFor (blocksIn t) t) (blocks-whole (blocksIn t) t) ∙ ap (λ (m : ℕ). 512 * m) (blocks-count (blocksIn t) t)
+    length-flatten (blocksFor (blocksIn t) t) (blocks-whole (blocksIn t) t) ∙ ap (λ (m : ℕ). 512 * m) (blocks-count (blocksIn t) t)

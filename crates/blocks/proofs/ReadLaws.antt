@@ -12,12 +12,13 @@ use Rattle.records.specs.declared.refusals.Fault.{Fault}
 use Rattle.records.specs.declared.refusals.Fault.the-variants.{Nothing, Is}
 use Rattle.records.specs.declared.tables.Kind.the-variants.{Holdings, Placement, Claims}
 use Rattle.records.proofs.OrderLaws.{orElse, first-append, first-then, first-stop}
-use Rattle.blocks.specs.File.{wholeFile, blocksOf, tablesIn, blocksChecks, fileChecks, recordChecks}
+use Rattle.blocks.specs.File.{wholeFile, blocksOf, tablesIn, blocksChecks, fileChecks}
 use Rattle.blocks.specs.Reader.{reading, countsOf, readChecks, readRoom, readOf}
 use Rattle.blocks.specs.Steps.{scanOf, judged}
 use Rattle.blocks.specs.declared.reader.Counts.{Counts}
 use Rattle.blocks.specs.declared.reader.Reading.the-variants.{Read, Refused}
-use Rattle.blocks.proofs.SoundFile.{Sound, file-sound, records-are, within-limit, read-sound}
+use Rattle.blocks.proofs.FileLaws.{recordChecks}
+use Rattle.blocks.proofs.GoodBlocks.{GoodBlocks, file-good, records-are, within-limit, read-good}
 
 -- what an answer says of the first fault
 
@@ -50,8 +51,8 @@ module _ (f : List ℕ) where
       unfolding scanOf
       passed = reading-read _ _ n e
 
-      pub scan-sound : Sound f
-      scan-sound = file-sound f w (passed .0)
+      pub scan-good : GoodBlocks f
+      scan-good = file-good f w (passed .0)
 
       pub judge-field : (r : Refusal) → firstOf (recordChecks (tablesIn f)) ≡ Is r → judged f ≡ Refused r
       unfolding judged
@@ -64,15 +65,15 @@ module _ (f : List ℕ) where
 -- ---- what the reader answers
 
 -- the bytes of so many records
-pub record Bytes (f : List ℕ) (n : Counts) : Type 0 where
+pub record TableBytes (f : List ℕ) (n : Counts) : Type 0 where
   pub holdings : (32 * n .holdings ≡ length (tablesIn f .holdings)) × (32 * n .holdings ≤ 8192)
   pub placement : (32 * n .placement ≡ length (tablesIn f .placement)) × (32 * n .placement ≤ 8192)
   pub claims : (32 * n .claims ≡ length (tablesIn f .claims)) × (32 * n .claims ≤ 1024)
 
-pub read-bytes : (f : List ℕ) (n : Counts) → firstOf (readChecks f) ≡ Nothing → n ≡ countsOf (tablesIn f) → Bytes f n
+pub read-bytes : (f : List ℕ) (n : Counts) → firstOf (readChecks f) ≡ Nothing → n ≡ countsOf (tablesIn f) → TableBytes f n
 unfolding tablesIn
 read-bytes f n good e =
-    let s = read-sound f good in
+    let s = read-good f good in
     let h = ap (λ (m : Counts). m .holdings) e in
     let p = ap (λ (m : Counts). m .placement) e in
     let c = ap (λ (m : Counts). m .claims) e in
@@ -105,7 +106,7 @@ module _ (f : List ℕ) (h p c : ℕ) (good : firstOf (readChecks f) ≡ Nothing
   read-done rh rp rc = read-room ∙ rw (le-leb (length (tablesIn f .holdings)) h rh, le-leb (length (tablesIn f .placement)) p rp, le-leb (length (tablesIn f .claims)) c rc)
 
   -- refusal 17, at the first table that is shorter than so many records
-  module _ (n : Counts) (b : Bytes f n) where
+  module _ (n : Counts) (b : TableBytes f n) where
     pub short-1 : h < 32 * n .holdings → readOf f h p c ≡ Refused (refuse 17 1 (32 * n .holdings))
     unfolding firstOf
     short-1 x = read-room ∙ rw (← (b .holdings .0), lt-leb (32 * n .holdings) h x)

@@ -43,16 +43,16 @@ follows-may n before t st b kind isKind e =
     }
 
 read-one : (n : ℕ) (before : List (List ℕ)) (t : Tables) → State n before t → (b : List ℕ) → Pass (blockChecks n before b) → length b ≡ 512 → AllBytes b
-    → (kind : Kind) × State n (b ∷ before) (add kind (recordsIn b) t)
+    → (kind : Kind) × State n (b ∷ before) (add kind (recordsIn (countOf b) b) t)
 unfolding blockChecks
 read-one n before t st b p len a =
     let i = length before in
     let f = formed-is i n b (p .1 .0) in
     let k = kind-from (kindOf b) (f .0 .kind .0) (f .0 .kind .1) in
-    let blk = block-is i n b len a (p .1 .0) (p .0) in (
+    let is = block-is i n b len a (p .1 .0) (p .0) in (
       k .0,
-      more n before t st (k .0) (countOf b) (recordsIn b) b (k .1) refl refl (f .0 .count .0) (f .0 .count .1) (block-count i n b len a (p .1 .0))
-          (blk ∙ ap (λ (m : ℕ). blockOf m i n (recordsIn b)) (k .1)) (follows-may n before t st b (k .0) (k .1) (p .1 .1 .0)),
+      more n before t st (k .0) (countOf b) (recordsIn (countOf b) b) b (k .1) refl refl (f .0 .count .0) (f .0 .count .1) (block-count i n b len a (p .1 .0))
+          (is ∙ ap (λ (m : ℕ). blockOf m i n (recordsIn (countOf b) b)) (k .1)) (follows-may n before t st b (k .0) (k .1) (p .1 .1 .0)),
     )
 
 pub read-all : (n : ℕ) (bs before : List (List ℕ)) (t : Tables) → State n before t → Pass (blocksChecks n before bs) → All (λ b. length b ≡ 512) bs → All AllBytes bs
@@ -61,4 +61,4 @@ unfolding blocksChecks
 read-all n [] before t st p l a = (t, st)
 read-all n (b ∷ bs) before t st p l a =
     let s = read-one n before t st b (pass-left (blockChecks n before b) (blocksChecks n (b ∷ before) bs) p) (l .0) (a .0) in
-    read-all n bs (b ∷ before) (add (s .0) (recordsIn b) t) (s .1) (pass-right (blockChecks n before b) (blocksChecks n (b ∷ before) bs) p) (l .1) (a .1)
+    read-all n bs (b ∷ before) (add (s .0) (recordsIn (countOf b) b) t) (s .1) (pass-right (blockChecks n before b) (blocksChecks n (b ∷ before) bs) p) (l .1) (a .1)

@@ -19,11 +19,22 @@ use Rattle.records.proofs.ListLaws.{only-le}
 use Rattle.records.proofs.OrderLaws.{orElse, first-append}
 use Rattle.blocks.specs.Block.{kindOf, countOf, sumsAgree, formed}
 use Rattle.blocks.specs.File.{blocksOf, countAs, recordsAs, joined, tablesIn, prevOf, mayFollow, follows, withinLimits, blockChecks, blocksChecks}
-use Rattle.blocks.specs.Steps.{nothingYet, soFar, grown, smallEnough, Small, Sized, blockFault, scanOf}
+use Rattle.blocks.specs.Steps.{nothingYet, grown, smallEnough, Small, Sized, blockFault, scanOf}
 use Rattle.blocks.specs.declared.scanner.SoFar.{SoFar}
 use Rattle.blocks.specs.declared.reader.Reading.the-variants.{Read}
 use Rattle.blocks.proofs.BlockLaws.{formed-is}
 use Rattle.blocks.proofs.FileLaws.{earlier, length-earlier, earlier-next, blocksFrom, blocks-all, blocks-step, blocks-none, length-blockAt, length-recordsAs, joined-step, joined-none}
+
+-- what the scan keeps of the blocks before, the nearest first
+abbrev pub soFar : List (List ℕ) → SoFar
+soFar before =
+    record {
+      kind = kindOf (prevOf before);
+      count = countOf (prevOf before);
+      holdings = sum (countAs Holdings) before;
+      placement = sum (countAs Placement) before;
+      claims = sum (countAs Claims) before;
+    }
 
 pub grown-most : (s : SoFar) (kind count : ℕ) → Small s → count ≤ 15
     → (grown s kind count .holdings ≤ 300) × (grown s kind count .placement ≤ 300) × (grown s kind count .claims ≤ 300)
@@ -45,7 +56,7 @@ four true true false d i = refl
 four true true true false i = refl
 four true true true true i = refl
 
-pub block-first : (n : ℕ) (before : List (List ℕ)) (b : List ℕ)
+block-first : (n : ℕ) (before : List (List ℕ)) (b : List ℕ)
     → firstOf (blockChecks n before b) ≡ found (blockFault (soFar before) (length before) n b) (length before)
 unfolding blockChecks blockFault follows withinLimits sum
 block-first n before b =
@@ -58,7 +69,7 @@ three true false c e = absurd (omega arith)
 three false b c e = absurd (omega arith)
 
 -- what a block without a fault is
-pub no-fault : (s : SoFar) (i n : ℕ) (b : List ℕ) → blockFault s i n b ≡ 0
+no-fault : (s : SoFar) (i n : ℕ) (b : List ℕ) → blockFault s i n b ≡ 0
     → (sumsAgree b ≡ true) × (formed i n b ≡ true) × (mayFollow (s .kind) (s .count) (kindOf b) ≡ true) × (smallEnough (grown s (kindOf b) (countOf b)) ≡ true)
 unfolding blockFault
 no-fault s i n b e =

@@ -5,7 +5,7 @@ use mathlib.Core.List.{List, [], _∷_, reverse, reverse-cons}
 use Prim.Native.Nat.{ℕ, zero, suc, _+_, _*_, _%_, _≤_, _<_}
 use native.Mathlib.Omega.{arith}
 use lib.Dec.{eqb}
-use lib.ListN.{length, take, drop, length-append}
+use lib.ListN.{length, length-append}
 use Rattle.records.specs.Bytes.{leAt}
 use Rattle.records.specs.Lists.{only, sum}
 use Rattle.records.specs.Tables.{tableNumber}
@@ -60,13 +60,13 @@ kind-from (suc (suc (suc (suc m)))) a b = absurd (omega arith)
 
 -- one block more, of a kind that may come next
 module _ (n : ℕ) (before : List (List ℕ)) (t : Tables) (st : State n before t) (kind : Kind) (count : ℕ) (r b : List ℕ)
-    (isKind : kindOf b ≡ tableNumber kind) (isCount : countOf b ≡ count) (isRecords : recordsIn b ≡ r)
+    (isKind : kindOf b ≡ tableNumber kind) (isCount : countOf b ≡ count) (isRecords : recordsIn (countOf b) b ≡ r)
     (c1 : 1 ≤ count) (c15 : count ≤ 15) (len : length r ≡ 32 * count)
     (isBlock : b ≡ blockOf (tableNumber kind) (length before) n r) (may : May (tableNumber kind) t) where
   records-added : (k : Kind) → recordsAs k b ≡ added kind k r
   records-added k = rw isKind (go (eqb (tableNumber kind) (tableNumber k)))
     where
-      go : (q : Bool) → take (32 * only q (countOf b)) (drop 16 b) ≡ cond q r []
+      go : (q : Bool) → recordsIn (only q (countOf b)) b ≡ cond q r []
       go true = isRecords
       go false = refl
 

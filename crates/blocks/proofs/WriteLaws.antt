@@ -1,7 +1,7 @@
 -- The writer: a block more, a kind after the other, and what it answers in each case.
 use mathlib.Core.Path.{_≡_, sym, ap, _∙_}
 use mathlib.Core.Bool.{true, false, _&&_, not, and-eq-true-iff, false≢true}
-use mathlib.Core.List.{List, [], _∷_, _++_, append-assoc}
+use mathlib.Core.List.{List, [], _∷_, _++_, append-assoc, flatten}
 use Prim.Native.Nat.{ℕ, zero, suc, _+_, _-_, _*_, _%_, _≤_, _<_, min}
 use native.Mathlib.Omega.{arith}
 use lib.ListN.{length, take, drop, length-append, length-take, length-drop}
@@ -20,19 +20,20 @@ use Rattle.records.proofs.ListLaws.{take-min}
 use Rattle.records.proofs.ChunkLaws.{chunks-more, length-chunks, chunks-short}
 use Rattle.records.proofs.PutLaws.{put-next, put-put}
 use Rattle.blocks.specs.Block.{blockOf}
-use Rattle.blocks.specs.File.{Tables, tables, blockCount, blocksIn, numbered, blocksFor, flat, blocksOfKind, fileOf, recordChecks}
+use Rattle.blocks.specs.File.{Tables, tables, blockCount, blocksIn, numbered, blocksFor, blocksOfKind, fileOf}
 use Rattle.blocks.specs.Writer.{takenTables, writeChecks, writeRoom, writeOf}
 use Rattle.blocks.specs.declared.writer.Writing.the-variants.{Wrote, Refused}
+use Rattle.blocks.proofs.FileLaws.{recordChecks}
 use Rattle.blocks.proofs.BlockLaws.{length-block}
-use Rattle.blocks.proofs.FlatLaws.{flat-append, flat-one, length-flat, numbered-append, length-numbered, numbered-whole, length-file}
+use Rattle.blocks.proofs.FlatLaws.{flatten-append, flatten-one, length-flatten, numbered-append, length-numbered, numbered-whole, length-file}
 
 -- the bytes of the first k blocks of a kind
 abbrev pub writtenTo : ℕ → ℕ → ℕ → List ℕ → ℕ → List ℕ
-writtenTo kind i n xs k = flat (numbered kind i n (chunks 480 k xs))
+writtenTo kind i n xs k = flatten (numbered kind i n (chunks 480 k xs))
 
-pub length-written : (kind i n : ℕ) (xs : List ℕ) (k : ℕ) → length (writtenTo kind i n xs k) ≡ 512 * k
+length-written : (kind i n : ℕ) (xs : List ℕ) (k : ℕ) → length (writtenTo kind i n xs k) ≡ 512 * k
 length-written kind i n xs k =
-    length-flat (numbered kind i n (chunks 480 k xs)) (numbered-whole kind i n (chunks 480 k xs) (chunks-short 480 k xs))
+    length-flatten (numbered kind i n (chunks 480 k xs)) (numbered-whole kind i n (chunks 480 k xs) (chunks-short 480 k xs))
     ∙ ap (λ (m : ℕ). 512 * m) (length-numbered kind i n (chunks 480 k xs) ∙ length-chunks 480 k xs)
 
 written-more : (kind i n : ℕ) (xs : List ℕ) (k : ℕ) → writtenTo kind i n xs (k + 1) ≡ writtenTo kind i n xs k ++ blockOf kind (i + k) n (chunkAt 480 xs k)
@@ -42,35 +43,36 @@ written-more kind i n xs k =
       chunks-more 480 k xs,
       numbered-append kind i n (chunks 480 k xs) (chunkAt 480 xs k ∷ []),
       length-chunks 480 k xs,
-      flat-append (numbered kind i n (chunks 480 k xs)) (blockOf kind (i + k) n (chunkAt 480 xs k) ∷ []),
-      flat-one (blockOf kind (i + k) n (chunkAt 480 xs k)),
+      flatten-append (numbered kind i n (chunks 480 k xs)) (blockOf kind (i + k) n (chunkAt 480 xs k) ∷ []),
+      flatten-one (blockOf kind (i + k) n (chunkAt 480 xs k)),
     )
 
 -- a turn of the writer
-pub write-turn : (d out blk xs : List ℕ) (at kind first n k end : ℕ) → at ≤ length d
-    → out ≡ putAt d at (writtenTo kind first n xs k)
-    → end ≡ min (480 * k + 480) (length xs)
-    → blk ≡ blockOf kind (first + k) n (take (end - 480 * k) (drop (480 * k) xs))
-    → putMid (at + 512 * k) (at + 512 * k + 512 - (at + 512 * k)) out blk ≡ putAt d at (writtenTo kind first n xs (k + 1))
-write-turn d out blk xs at kind first n k end h eo ee eb =
-    let part : take (end - 480 * k) (drop (480 * k) xs) ≡ chunkAt 480 xs k = take-min (end - 480 * k) 480 (drop (480 * k) xs) (simp length-drop (omega arith)) in
-    let this : blk ≡ blockOf kind (first + k) n (chunkAt 480 xs k) = rw (eb, part) in
+pub write-turn : (d out block xs : List ℕ) (start kind first n k to : ℕ) → start ≤ length d
+    → out ≡ putAt d start (writtenTo kind first n xs k)
+    → to ≡ min (480 * k + 480) (length xs)
+    → block ≡ blockOf kind (first + k) n (take (to - 480 * k) (drop (480 * k) xs))
+    → putMid (start + 512 * k) (start + 512 * k + 512 - (start + 512 * k)) out block ≡ putAt d start (writtenTo kind first n xs (k + 1))
+write-turn d out block xs start kind first n k to h eo et eb =
+    let part : take (to - 480 * k) (drop (480 * k) xs) ≡ chunkAt 480 xs k =
+    take-min (to - 480 * k) 480 (drop (480 * k) xs) (simp length-drop (omega arith)) in
+    let this : block ≡ blockOf kind (first + k) n (chunkAt 480 xs k) = rw (eb, part) in
     let short : length (chunkAt 480 xs k) ≤ 480 = simp length-take (omega arith) in
     rw (eo, this, written-more kind first n xs k)
-    (put-next d (writtenTo kind first n xs k) (blockOf kind (first + k) n (chunkAt 480 xs k)) at (at + 512 * k) (at + 512 * k + 512 - (at + 512 * k)) h
-    (ap (λ (m : ℕ). at + m) (sym (length-written kind first n xs k))) (omega (arith, length-block kind (first + k) n (chunkAt 480 xs k) short)))
+    (put-next d (writtenTo kind first n xs k) (blockOf kind (first + k) n (chunkAt 480 xs k)) start (start + 512 * k) (start + 512 * k + 512 - (start + 512 * k)) h
+    (ap (λ (m : ℕ). start + m) (sym (length-written kind first n xs k))) (omega (arith, length-block kind (first + k) n (chunkAt 480 xs k) short)))
 
 -- ---- the three kinds
 
-pub length-kind : (kind i n : ℕ) (xs : List ℕ) → length (blocksOfKind kind i n xs) ≡ 512 * blockCount (length xs)
+length-kind : (kind i n : ℕ) (xs : List ℕ) → length (blocksOfKind kind i n xs) ≡ 512 * blockCount (length xs)
 unfolding blocksOfKind
 length-kind kind i n xs = length-written kind i n xs (blockCount (length xs))
 
 file-parts : (n : ℕ) (h p c : List ℕ)
-    → flat (blocksFor n (tables h p c))
+    → flatten (blocksFor n (tables h p c))
     ≡ blocksOfKind 1 0 n h ++ (blocksOfKind 2 (blockCount (length h)) n p ++ blocksOfKind 3 (blockCount (length h) + blockCount (length p)) n c)
 unfolding blocksFor blocksOfKind
-file-parts n h p c = simp flat-append
+file-parts n h p c = simp flatten-append
 
 -- the three kinds' writes, one after another, with the numbers of blocks that were counted
 pub file-put : (d d₁ d₂ d₃ h p c : List ℕ) (a b m₁ m₂ n : ℕ)

@@ -67,7 +67,7 @@ module _ (kind i n count : ℕ) (r : List ℕ) (len : length r ≡ 32 * count) w
   unfolding blockOf sealed bodyOf rest₁ rest₂
   cut = simp append-assoc
 
-  pub records-of : recordsIn (blockOf kind i n r) ≡ r
+  pub records-of : recordsIn (countOf (blockOf kind i n r)) (blockOf kind i n r) ≡ r
   records-of =
       rw (count-of, cut, drop-at (headOf kind (length r / 32) i n) (r ++ rest₁) 16 (length-head kind (length r / 32) i n)) (take-at r rest₁ (32 * count) len)
 

@@ -9,8 +9,8 @@ use Rattle.blocks.specs.File.{blocksOf, tablesIn}
 use Rattle.blocks.specs.Reader.{leaves}
 use Rattle.blocks.specs.Steps.{Sized}
 use Rattle.blocks.specs.declared.reader.Reading.the-variants.{Read}
-use Rattle.blocks.proofs.SoundFile.{read-sound}
-use Rattle.blocks.proofs.ReadLaws.{Bytes, read-bytes, read-done, short-1, short-2, short-3}
+use Rattle.blocks.proofs.GoodBlocks.{read-good}
+use Rattle.blocks.proofs.ReadLaws.{TableBytes, read-bytes, read-done, short-1, short-2, short-3}
 use borrow.Author.Needs.{needs}
 use Rattle.blocks.proofs.reader.put_tables.Statement.{statement}
 use Rattle.blocks.proofs.reader.put_tables.Tie as tie
@@ -18,11 +18,11 @@ use Rattle.blocks.proofs.reader.put_tables.Tie as tie
 abbrev file : tie.Start → List ℕ
 file z = now (z .args .file)
 
-bytes : (z : tie.Start) → Bytes (file z) (z .args .counts)
+bytes : (z : tie.Start) → TableBytes (file z) (z .args .counts)
 bytes z = read-bytes (file z) (z .args .counts) (z .pre .0) (z .pre .1)
 
 sized : (z : tie.Start) → All Sized (blocksOf (file z))
-sized z = read-sound (file z) (z .pre .0) .sized
+sized z = read-good (file z) (z .pre .0) .sized
 
 abbrev start : tie.After-struct-known3 → tie.Start
 start c = c .before .before .before .before .before .before .before

@@ -1,7 +1,7 @@
 -- What holds of a file whose blocks have no fault: each block has its size, each table is whole and within its limit.
 use mathlib.Core.Path.{_≡_, refl}
 use mathlib.Core.Bool.{true}
-use mathlib.Core.List.{List, [], _∷_, _++_}
+use mathlib.Core.List.{List, [], _∷_, _++_, flatMap}
 use Prim.Native.Nat.{ℕ, _+_, _*_, _/_, _%_, _≤_}
 use native.Mathlib.Omega.{arith}
 use lib.ListN.{length, length-append}
@@ -14,12 +14,12 @@ use Rattle.records.specs.declared.tables.Kind.{Kind}
 use Rattle.records.specs.declared.tables.Kind.the-variants.{Holdings, Placement, Claims}
 use Rattle.records.proofs.ChunkLaws.{chunks-whole}
 use Rattle.records.proofs.OrderLaws.{Pass, clear, unclear, pass-left}
-use Rattle.blocks.specs.File.{wholeFile, blocksOf, countAs, recordsAs, joined, tablesIn, withinLimits, blockChecks, blocksChecks, fileChecks, recordChecks}
+use Rattle.blocks.specs.File.{wholeFile, blocksOf, countAs, recordsAs, joined, tablesIn, withinLimits, blockChecks, blocksChecks, fileChecks}
 use Rattle.blocks.specs.Reader.{readChecks}
-use Rattle.blocks.specs.Steps.{Sized, soFar}
+use Rattle.blocks.specs.Steps.{Sized}
 use Rattle.blocks.proofs.BlockLaws.{formed-is}
-use Rattle.blocks.proofs.FileLaws.{whole-file, length-recordsAs}
-use Rattle.blocks.proofs.ScanLaws.{in-limits}
+use Rattle.blocks.proofs.FileLaws.{recordChecks, whole-file, length-recordsAs}
+use Rattle.blocks.proofs.ScanLaws.{soFar, in-limits}
 
 -- ---- the blocks
 
@@ -31,7 +31,7 @@ blocks-sized n before (b ∷ bs) p s =
     (record { size = s .0; few = formed-is (length before) n b (p .1 .0) .0 .count .1 }, blocks-sized n (b ∷ before) bs (p .1 .1 .1 .1) (s .1))
 
 length-joined : (kind : Kind) (bs : List (List ℕ)) → All Sized bs → length (joined kind bs) ≡ 32 * sum (countAs kind) bs
-unfolding joined sum
+unfolding flatMap sum
 length-joined kind [] s = refl
 length-joined kind (b ∷ bs) s =
     rw (length-append (recordsAs kind b) (joined kind bs)) (omega (arith, length-recordsAs kind b (s .0), length-joined kind bs (s .1)))
@@ -53,23 +53,23 @@ blocks-limits kind n before (b ∷ bs) p h =
 -- ---- a file that is read
 
 -- what is known of a file whose blocks have no fault
-pub record Sound (f : List ℕ) : Type 0 where
+pub record GoodBlocks (f : List ℕ) : Type 0 where
   pub whole : wholeFile (length f) ≡ true
   pub blocks : Pass (blocksChecks (length f / 512) [] (blocksOf f))
   pub sized : All Sized (blocksOf f)
 
-pub file-sound : (f : List ℕ) → wholeFile (length f) ≡ true → firstOf (blocksChecks (length f / 512) [] (blocksOf f)) ≡ Nothing → Sound f
-file-sound f w e =
+pub file-good : (f : List ℕ) → wholeFile (length f) ≡ true → firstOf (blocksChecks (length f / 512) [] (blocksOf f)) ≡ Nothing → GoodBlocks f
+file-good f w e =
     let p = clear _ e in
     let h = whole-file (length f) w in
     record { whole = w; blocks = p; sized = blocks-sized (length f / 512) [] (blocksOf f) p (chunks-whole 512 (length f / 512) f (omega arith)) }
 
-pub sound : (f : List ℕ) → Pass (fileChecks f) → Sound f
+pub checks-good : (f : List ℕ) → Pass (fileChecks f) → GoodBlocks f
 unfolding fileChecks
-sound f p = file-sound f (p .0) (unclear _ (p .1))
+checks-good f p = file-good f (p .0) (unclear _ (p .1))
 
 -- a table that is read is of whole records and within its limit
-module _ (f : List ℕ) (s : Sound f) (kind : Kind) where
+module _ (f : List ℕ) (s : GoodBlocks f) (kind : Kind) where
   pub records-are : length (joined kind (blocksOf f)) ≡ 32 * (length (joined kind (blocksOf f)) / 32)
   records-are = omega (arith, length-joined kind (blocksOf f) (s .sized))
 
@@ -85,6 +85,6 @@ module _ (f : List ℕ) (s : Sound f) (kind : Kind) where
       let l = within-limit in
       rw (eq-eqb (n % 32) 0 (omega arith), le-leb (n / 32) (limitOf kind) (omega arith))
 
-pub read-sound : (f : List ℕ) → firstOf (readChecks f) ≡ Nothing → Sound f
+pub read-good : (f : List ℕ) → firstOf (readChecks f) ≡ Nothing → GoodBlocks f
 unfolding readChecks
-read-sound f e = sound f (pass-left (fileChecks f) (recordChecks (tablesIn f)) (clear (fileChecks f ++ recordChecks (tablesIn f)) e))
+read-good f e = checks-good f (pass-left (fileChecks f) (recordChecks (tablesIn f)) (clear (fileChecks f ++ recordChecks (tablesIn f)) e))
