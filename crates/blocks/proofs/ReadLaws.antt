@@ -103,19 +103,29 @@ module _ (f : List ℕ) (h p c : ℕ) (good : firstOf (readChecks f) ≡ Nothing
   pub read-done : length (tablesIn f .holdings) ≤ h → length (tablesIn f .placement) ≤ p → length (tablesIn f .claims) ≤ c
       → readOf f h p c ≡ Read (countsOf (tablesIn f))
   unfolding firstOf
-  read-done rh rp rc = read-room ∙ rw (le-leb (length (tablesIn f .holdings)) h rh, le-leb (length (tablesIn f .placement)) p rp, le-leb (length (tablesIn f .claims)) c rc)
+  read-done rh rp rc =
+      read-room
+      ∙ rw (le-leb (length (tablesIn f .holdings)) h rh, le-leb (length (tablesIn f .placement)) p rp, le-leb (length (tablesIn f .claims)) c rc)
 
-  -- refusal 17, at the first table that is shorter than so many records
-  module _ (n : Counts) (b : TableBytes f n) where
-    pub short-1 : h < 32 * n .holdings → readOf f h p c ≡ Refused (refuse 17 1 (32 * n .holdings))
-    unfolding firstOf
-    short-1 x = read-room ∙ rw (← (b .holdings .0), lt-leb (32 * n .holdings) h x)
+-- by which tables have room for so many records: refusal 17 at the first that has not, or the counts
+pub record Answers (f : List ℕ) (h p c : ℕ) (n : Counts) : Type 0 where
+  pub short-1 : h < 32 * n .holdings → readOf f h p c ≡ Refused (refuse 17 1 (32 * n .holdings))
+  pub short-2 : 32 * n .holdings ≤ h → p < 32 * n .placement → readOf f h p c ≡ Refused (refuse 17 2 (32 * n .placement))
+  pub short-3 : 32 * n .holdings ≤ h → 32 * n .placement ≤ p → c < 32 * n .claims → readOf f h p c ≡ Refused (refuse 17 3 (32 * n .claims))
+  pub done : 32 * n .holdings ≤ h → 32 * n .placement ≤ p → 32 * n .claims ≤ c → readOf f h p c ≡ Read n
 
-    module _ (rh : 32 * n .holdings ≤ h) where
-      pub short-2 : p < 32 * n .placement → readOf f h p c ≡ Refused (refuse 17 2 (32 * n .placement))
-      unfolding firstOf
-      short-2 x = read-room ∙ rw (← (b .holdings .0), le-leb (32 * n .holdings) h rh, ← (b .placement .0), lt-leb (32 * n .placement) p x)
-
-      pub short-3 : 32 * n .placement ≤ p → c < 32 * n .claims → readOf f h p c ≡ Refused (refuse 17 3 (32 * n .claims))
-      unfolding firstOf
-      short-3 rp x = read-room ∙ rw (← (b .holdings .0), le-leb (32 * n .holdings) h rh, ← (b .placement .0), le-leb (32 * n .placement) p rp, ← (b .claims .0), lt-leb (32 * n .claims) c x)
+pub answers : (f : List ℕ) (h p c : ℕ) (n : Counts) → firstOf (readChecks f) ≡ Nothing → n ≡ countsOf (tablesIn f) → Answers f h p c n
+unfolding firstOf
+answers f h p c n good e =
+    let b = read-bytes f n good e in
+    let eh = b .holdings .0 in
+    let ep = b .placement .0 in
+    let ec = b .claims .0 in
+    let r = read-room f h p c good in
+    record {
+      short-1 = λ x. r ∙ rw (← eh, lt-leb (32 * n .holdings) h x);
+      short-2 = λ rh x. r ∙ rw (← eh, le-leb (32 * n .holdings) h rh, ← ep, lt-leb (32 * n .placement) p x);
+      short-3 = λ rh rp x.
+          r ∙ rw (← eh, le-leb (32 * n .holdings) h rh, ← ep, le-leb (32 * n .placement) p rp, ← ec, lt-leb (32 * n .claims) c x);
+      done = λ rh rp rc. rw e (read-done f h p c good (omega arith) (omega arith) (omega arith));
+    }

@@ -5,6 +5,7 @@ use mathlib.Core.List.{List, [], _++_, reverse, reverse-reverse}
 use Prim.Native.Nat.{ℕ, _/_, _<_}
 use native.Mathlib.Omega.{arith}
 use lib.ListN.{length, length-reverse}
+use Rattle.records.specs.declared.tables.Kind.{Kind}
 use Rattle.records.specs.declared.tables.Kind.the-variants.{Holdings, Placement, Claims}
 use Rattle.records.proofs.ChunkLaws.{length-chunks, chunks-whole, chunks-each}
 use Rattle.records.proofs.OrderLaws.{Pass, clear, unclear, pass-left, pass-right}
@@ -58,8 +59,9 @@ module _ (f : List ℕ) (a : AllBytes f) (r : Reads f) where
   taken-back =
       let w = whole-file (length f) (fine .whole) in
       let l = ap length (sym file-back) ∙ length-file (tablesIn f) in
+      let n : Kind → ℕ = λ k. length (joined k (blocksOf f)) in
       rw (whole-table f fine Holdings, whole-table f fine Placement, whole-table f fine Claims)
-      (some-not-empty (length (joined Holdings (blocksOf f))) (length (joined Placement (blocksOf f))) (length (joined Claims (blocksOf f))) (omega (arith, l, w .1)))
+      (some-not-empty (n Holdings) (n Placement) (n Claims) (omega (arith, l, w .1)))
 
   writes : Writes (tablesIn f)
   unfolding writeChecks
@@ -74,4 +76,5 @@ unfolding filled writeChecks
 calls-write-back f a r room fits =
     let e = file-back f a r in
     let p = clear (writeChecks (tablesIn f)) (writes f a r) in
-    (rw e at (write-done (tablesIn f) room (p .0) (unclear (recordChecks (tablesIn f)) (p .1)) (omega (arith, ap length (sym e) ∙ length-file (tablesIn f)))), λ lent. rw e)
+    let fields = unclear (recordChecks (tablesIn f)) (p .1) in
+    (rw e at (write-done (tablesIn f) room (p .0) fields (omega (arith, ap length (sym e) ∙ length-file (tablesIn f)))), λ lent. rw e)

@@ -55,10 +55,13 @@ read-one n before t st b p len a =
           (is ∙ ap (λ (m : ℕ). blockOf m i n (recordsIn (countOf b) b)) (k .1)) (follows-may n before t st b (k .0) (k .1) (p .1 .1 .0)),
     )
 
-pub read-all : (n : ℕ) (bs before : List (List ℕ)) (t : Tables) → State n before t → Pass (blocksChecks n before bs) → All (λ b. length b ≡ 512) bs → All AllBytes bs
+pub read-all : (n : ℕ) (bs before : List (List ℕ)) (t : Tables) → State n before t → Pass (blocksChecks n before bs)
+    → All (λ b. length b ≡ 512) bs → All AllBytes bs
     → (u : Tables) × State n (reverseAux bs before) u
 unfolding blocksChecks
 read-all n [] before t st p l a = (t, st)
 read-all n (b ∷ bs) before t st p l a =
-    let s = read-one n before t st b (pass-left (blockChecks n before b) (blocksChecks n (b ∷ before) bs) p) (l .0) (a .0) in
-    read-all n bs (b ∷ before) (add (s .0) (recordsIn (countOf b) b) t) (s .1) (pass-right (blockChecks n before b) (blocksChecks n (b ∷ before) bs) p) (l .1) (a .1)
+    let this = blockChecks n before b in
+    let rest = blocksChecks n (b ∷ before) bs in
+    let s = read-one n before t st b (pass-left this rest p) (l .0) (a .0) in
+    read-all n bs (b ∷ before) (add (s .0) (recordsIn (countOf b) b) t) (s .1) (pass-right this rest p) (l .1) (a .1)

@@ -39,7 +39,10 @@ soFar before =
 pub grown-most : (s : SoFar) (kind count : ℕ) → Small s → count ≤ 15
     → (grown s kind count .holdings ≤ 300) × (grown s kind count .placement ≤ 300) × (grown s kind count .claims ≤ 300)
 grown-most s kind count h few =
-    (omega (arith, h .holdings, only-le (eqb kind 1) count), omega (arith, h .placement, only-le (eqb kind 2) count), omega (arith, h .claims, only-le (eqb kind 3) count))
+    let eh = only-le (eqb kind 1) count in
+    let ep = only-le (eqb kind 2) count in
+    let ec = only-le (eqb kind 3) count in
+    (omega arith, omega arith, omega arith)
 
 -- ---- one block
 
@@ -60,7 +63,8 @@ block-first : (n : ℕ) (before : List (List ℕ)) (b : List ℕ)
     → firstOf (blockChecks n before b) ≡ found (blockFault (soFar before) (length before) n b) (length before)
 unfolding blockChecks blockFault follows withinLimits sum
 block-first n before b =
-    four (sumsAgree b) (formed (length before) n b) (mayFollow (kindOf (prevOf before)) (countOf (prevOf before)) (kindOf b)) (smallEnough (grown (soFar before) (kindOf b) (countOf b))) (length before)
+    let s = soFar before in
+    four (sumsAgree b) (formed (length before) n b) (mayFollow (s .kind) (s .count) (kindOf b)) (smallEnough (grown s (kindOf b) (countOf b))) (length before)
 
 three : (a b c : Bool) → _≡_ {A = ℕ} (cond a (cond b (cond c 0 3) 3) 2) 0 → (a ≡ true) × (b ≡ true) × (c ≡ true)
 three true true true e = (refl, refl, refl)
@@ -70,7 +74,8 @@ three false b c e = absurd (omega arith)
 
 -- what a block without a fault is
 no-fault : (s : SoFar) (i n : ℕ) (b : List ℕ) → blockFault s i n b ≡ 0
-    → (sumsAgree b ≡ true) × (formed i n b ≡ true) × (mayFollow (s .kind) (s .count) (kindOf b) ≡ true) × (smallEnough (grown s (kindOf b) (countOf b)) ≡ true)
+    → (sumsAgree b ≡ true) × (formed i n b ≡ true) × (mayFollow (s .kind) (s .count) (kindOf b) ≡ true)
+    × (smallEnough (grown s (kindOf b) (countOf b)) ≡ true)
 unfolding blockFault
 no-fault s i n b e =
     let t = three (sumsAgree b) (formed i n b) (mayFollow (s .kind) (s .count) (kindOf b) && smallEnough (grown s (kindOf b) (countOf b))) e in
@@ -117,7 +122,8 @@ scan-start f =
 
 module _ (f : List ℕ) (i : ℕ) (s : SoFar) (h : i < length f / 512) (inv : Scanned f i s) where
   step : firstOf (blocksChecks (length f / 512) [] (blocksOf f))
-      ≡ orElse (found (blockFault s i (length f / 512) (chunkAt 512 f i)) i) (firstOf (blocksChecks (length f / 512) (earlier f (i + 1)) (blocksFrom f (i + 1))))
+      ≡ orElse (found (blockFault s i (length f / 512) (chunkAt 512 f i)) i)
+      (firstOf (blocksChecks (length f / 512) (earlier f (i + 1)) (blocksFrom f (i + 1))))
   unfolding blocksChecks
   step =
       let n = length f / 512 in
@@ -125,7 +131,14 @@ module _ (f : List ℕ) (i : ℕ) (s : SoFar) (h : i < length f / 512) (inv : Sc
       let e = block-first n (earlier f i) b in
       let l = length-earlier f i in
       inv .checks
-      ∙ rw (blocks-step f i h, first-append (blockChecks n (earlier f i) b) (blocksChecks n (b ∷ earlier f i) (blocksFrom f (i + 1))), e, l, inv .seen, earlier-next f i)
+      ∙ rw (
+        blocks-step f i h,
+        first-append (blockChecks n (earlier f i) b) (blocksChecks n (b ∷ earlier f i) (blocksFrom f (i + 1))),
+        e,
+        l,
+        inv .seen,
+        earlier-next f i,
+      )
 
   pub scan-fault : (t : ℕ) → t ≡ blockFault s i (length f / 512) (chunkAt 512 f i) → (t ≡ 0 → ⊥)
       → firstOf (blocksChecks (length f / 512) [] (blocksOf f)) ≡ Is (refuse t 0 i)
@@ -142,7 +155,8 @@ module _ (f : List ℕ) (i : ℕ) (s : SoFar) (h : i < length f / 512) (inv : Sc
     count-next : (kind : Kind) (count : ℕ) → CountIs kind f i count → CountIs kind f (i + 1) (countAs kind (chunkAt 512 f i) + count)
     count-next kind count e =
         let b = chunkAt 512 f i in
-        let j = ap length (joined-step kind b (blocksFrom f i) (blocksFrom f (i + 1)) (blocks-step f i h)) ∙ length-append (recordsAs kind b) (joined kind (blocksFrom f (i + 1))) in
+        let rest = blocksFrom f (i + 1) in
+        let j = ap length (joined-step kind b (blocksFrom f i) rest (blocks-step f i h)) ∙ length-append (recordsAs kind b) (joined kind rest) in
         omega (arith, e, j, length-recordsAs kind b scan-sized)
 
     pub scan-next : Scanned f (i + 1) (grown s (kindOf (chunkAt 512 f i)) (countOf (chunkAt 512 f i)))

@@ -51,7 +51,8 @@ unfoldable pub PassBack : ℕ → List (List ℕ) → Type 0
 PassBack n [] = Unit {0}
 PassBack n (b ∷ before) = Pass (blockChecks n before b) × PassBack n before
 
-pub pass-reversed : (n : ℕ) (before bs : List (List ℕ)) → PassBack n before → Pass (blocksChecks n before bs) → Pass (blocksChecks n [] (reverseAux before bs))
+pub pass-reversed : (n : ℕ) (before bs : List (List ℕ)) → PassBack n before → Pass (blocksChecks n before bs)
+    → Pass (blocksChecks n [] (reverseAux before bs))
 unfolding blocksChecks PassBack
 pass-reversed n [] bs p q = q
 pass-reversed n (b ∷ before) bs p q =
@@ -66,9 +67,14 @@ pub record Reach (n : ℕ) (t : Tables) : Type 0 where
 limits-good : (bs : List (List ℕ)) → ((k : Kind) → sum (countAs k) bs ≤ limitOf k) → withinLimits bs ≡ true
 unfolding withinLimits
 limits-good bs h =
-    rw (le-leb (sum (countAs Holdings) bs) 256 (h Holdings), le-leb (sum (countAs Placement) bs) 256 (h Placement), le-leb (sum (countAs Claims) bs) 32 (h Claims))
+    rw (
+      le-leb (sum (countAs Holdings) bs) 256 (h Holdings),
+      le-leb (sum (countAs Placement) bs) 256 (h Placement),
+      le-leb (sum (countAs Claims) bs) 32 (h Claims),
+    )
 
-pub write-one : (n : ℕ) (t : Tables) → Reach n t → (kind : Kind) (count : ℕ) (r : List ℕ) → 1 ≤ count → count ≤ 15 → length r ≡ 32 * count → May (tableNumber kind) t
+pub write-one : (n : ℕ) (t : Tables) → Reach n t → (kind : Kind) (count : ℕ) (r : List ℕ) → 1 ≤ count → count ≤ 15 → length r ≡ 32 * count
+    → May (tableNumber kind) t
     → ((k : Kind) → length (tableOf k (add kind r t)) ≤ 32 * limitOf k) → Reach n (add kind r t)
 unfolding blockChecks PassBack
 write-one n t w kind count r c1 c15 len may most =

@@ -41,7 +41,8 @@ module _ (t : Tables) (w : Writes t) where
   joined-is : (k : Kind) → joined k (blocksOf (fileOf t)) ≡ tableOf k t
   joined-is k =
       let r = reach (blocksIn t) t taken in
-      rw (blocks-back, r .state .blocks) (sym (joined-back k (reverse (r .before))) ∙ ap (joinedBack k) (reverse-reverse (r .before)) ∙ sym (r .state .joins k))
+      rw (blocks-back, r .state .blocks)
+      (sym (joined-back k (reverse (r .before))) ∙ ap (joinedBack k) (reverse-reverse (r .before)) ∙ sym (r .state .joins k))
 
   tables-back : tablesIn (fileOf t) ≡ t
   unfolding tablesIn
@@ -51,7 +52,12 @@ module _ (t : Tables) (w : Writes t) where
   whole =
       let v = taken in
       let l = length-file t in
-      rw (eq-eqb (length (fileOf t) % 512) 0 (omega arith), le-leb 1 (length (fileOf t) / 512) (omega (arith, v .some)), le-leb (length (fileOf t) / 512) 39 (omega (arith, v .holdings .1, v .placement .1, v .claims .1)))
+      let n = length (fileOf t) / 512 in
+      rw (
+        eq-eqb (length (fileOf t) % 512) 0 (omega arith),
+        le-leb 1 n (omega (arith, v .some)),
+        le-leb n 39 (omega (arith, v .holdings .1, v .placement .1, v .claims .1)),
+      )
 
   file-passes : Pass (fileChecks (fileOf t))
   unfolding fileChecks blocksChecks
@@ -65,7 +71,10 @@ module _ (t : Tables) (w : Writes t) where
 
   reads : Reads (fileOf t)
   unfolding readChecks
-  reads = unclear (fileChecks (fileOf t) ++ recordChecks (tablesIn (fileOf t))) (pass-both (fileChecks (fileOf t)) (recordChecks (tablesIn (fileOf t))) file-passes fields-pass)
+  reads =
+      let a = fileChecks (fileOf t) in
+      let b = recordChecks (tablesIn (fileOf t)) in
+      unclear (a ++ b) (pass-both a b file-passes fields-pass)
 
 pub written-reads-back : WrittenReadsBack
 written-reads-back t w = (reads t w, tables-back t w)
