@@ -1,7 +1,7 @@
 /*
  * A member house's first sheet, from C: the iron condor of document 01's bench (P4) placed
  * as two groups, checked, written as a file, read back, and refused when a claim is a mill
- * short.
+ * short. Each call of usm.h is made at least once.
  *
  *   cc -I ../include example.c ../../target/staticlib/libusm_c.a -o example
  */
@@ -54,6 +54,14 @@ static int refused(const char *call, const uint64_t *answer)
     return 1;
 }
 
+static int accepted(const char *call, const uint64_t *answer)
+{
+    if (refused(call, answer))
+        return 0;
+    printf("%s: accepted, groups %" PRIu64 ", total %" PRIu64 " mills\n", call, answer[1], answer[2]);
+    return 1;
+}
+
 /* A sheet of four legs in two groups. */
 struct sheet {
     uint8_t holdings[4 * USM_RECORD_BYTES], placement[4 * USM_RECORD_BYTES];
@@ -71,6 +79,28 @@ static void place_iron_condor(struct sheet *sheet)
         leg(sheet->holdings + at, 0, legs[i].side, legs[i].type, legs[i].strike);
         leg(sheet->placement + at, legs[i].group, legs[i].side, legs[i].type, legs[i].strike);
     }
+}
+
+/* A table by itself. */
+static int print_records(uint64_t kind, const uint8_t *table, size_t table_len)
+{
+    uint64_t answer[USM_ANSWER_NUMBERS];
+    usm_check_table(kind, table, table_len, answer);
+    if (refused("usm_check_table", answer))
+        return 0;
+    printf("table %" PRIu64 ": %" PRIu64 " records in range\n", kind, answer[1]);
+    return 1;
+}
+
+/* The margin of one group. */
+static int print_margin(const struct sheet *sheet, uint64_t g)
+{
+    uint64_t answer[USM_ANSWER_NUMBERS];
+    usm_margin(sheet->placement, sizeof sheet->placement, g, answer);
+    if (refused("usm_margin", answer))
+        return 0;
+    printf("group %" PRIu64 " by itself: margin %" PRId64 "\n", g, (int64_t)answer[1]);
+    return 1;
 }
 
 /* The margins of both groups, and the claims made from them. */
@@ -108,13 +138,23 @@ static int check(const struct sheet *sheet)
     uint64_t answer[USM_ANSWER_NUMBERS];
     usm_check_sheet(sheet->holdings, sizeof sheet->holdings, sheet->placement, sizeof sheet->placement,
                     sheet->claims, sizeof sheet->claims, answer);
-    if (refused("usm_check_sheet", answer))
+    return accepted("usm_check_sheet", answer);
+}
+
+/* The verdict on a file, as numbers and as the line the checker prints. */
+static int check_file(const uint8_t *file, size_t file_len)
+{
+    uint64_t answer[USM_ANSWER_NUMBERS];
+    usm_check_file(file, file_len, answer);
+    if (!accepted("usm_check_file", answer))
         return 0;
-    printf("accepted: groups %" PRIu64 ", total %" PRIu64 " mills\n", answer[1], answer[2]);
+    uint8_t line[USM_LINE_BYTES];
+    size_t line_len = usm_file_line(file, file_len, line);
+    printf("file of %zu bytes: %.*s", file_len, (int)line_len, (const char *)line);
     return 1;
 }
 
-/* The file, the line the checker prints for it, and the way back. */
+/* The file of a sheet, and the way back. */
 static int write_and_read_back(const struct sheet *sheet)
 {
     uint8_t file[USM_LONGEST_FILE];
@@ -124,9 +164,8 @@ static int write_and_read_back(const struct sheet *sheet)
     if (refused("usm_write_file", answer))
         return 0;
     size_t file_len = (size_t)answer[1];
-    uint8_t line[USM_LINE_BYTES];
-    size_t line_len = usm_file_line(file, file_len, line);
-    printf("file of %zu bytes: %.*s", file_len, (int)line_len, (const char *)line);
+    if (!check_file(file, file_len))
+        return 0;
 
     struct sheet back;
     usm_read_file(file, file_len, back.holdings, sizeof back.holdings, back.placement, sizeof back.placement,
@@ -152,10 +191,13 @@ int main(void)
 {
     struct sheet sheet;
     place_iron_condor(&sheet);
-    if (!claim_margins(&sheet) || !print_worksheet(&sheet, 1) || !check(&sheet) || !write_and_read_back(&sheet))
+    if (!print_records(USM_HOLDINGS, sheet.holdings, sizeof sheet.holdings) ||
+        !print_records(USM_PLACEMENT, sheet.placement, sizeof sheet.placement) ||
+        !claim_margins(&sheet) || !print_margin(&sheet, 2) || !print_worksheet(&sheet, 1) ||
+        !check(&sheet) || !write_and_read_back(&sheet))
         return 1;
 
-    /* A claim one mill short is refusal 16 at group 2, and three empty tables make no file. */
+    /* There is no group 3 (6), a claim one mill short is 16, and three empty tables make no file. */
     claim(sheet.claims + USM_RECORD_BYTES, 2, 499999);
-    return check(&sheet) || write_nothing();
+    return print_margin(&sheet, 3) || check(&sheet) || write_nothing();
 }

@@ -53,3 +53,16 @@ pub fn placed(placement: &[Leg], margins: &[i64]) -> Sheet {
         claims: (1..).zip(margins).map(|(group, &margin)| Claim { group, margin }).collect(),
     }
 }
+
+/// The longest sheet: 32 groups of 8 legs and so 256 records, 256 records and 32 claims, which
+/// fill 39 blocks. It is accepted.
+pub fn fullest() -> Sheet {
+    let verticals = (1..=32).flat_map(|group| {
+        (1..=8).map(move |strike| {
+            let side = if strike % 2 == 0 { Side::Long } else { Side::Short };
+            Leg { group, side, strike, ..leg("L50c") }
+        })
+    });
+    // Each short lies one mill below its long: at the top strike four pairs lose a mill a unit.
+    placed(&verticals.collect::<Vec<Leg>>(), &[400; 32])
+}

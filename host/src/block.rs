@@ -1,5 +1,8 @@
-//! The blocks of a sheet file, for those who change one by hand: samples and tests.
+//! The blocks of a sheet file: their measures, for the model too, and ways to change one by hand,
+//! for samples and tests.
 
+/// What a block begins with.
+pub const MARK: [u8; 4] = *b"USM1";
 /// Bytes of a block.
 pub const BLOCK_BYTES: usize = 512;
 /// A file has 1 to this many blocks.
@@ -8,6 +11,8 @@ pub const MOST_BLOCKS: usize = 39;
 pub const LONGEST_FILE: usize = MOST_BLOCKS * BLOCK_BYTES;
 /// Where in a block its records begin.
 pub const RECORDS_AT: usize = 16;
+/// A block has 1 to this many records.
+pub const RECORDS_IN_BLOCK: usize = 15;
 /// Where in a block check A stands, and check B behind it.
 pub const CHECKS_AT: usize = 508;
 

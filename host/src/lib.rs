@@ -6,13 +6,15 @@
 //! result, or with the first [`Refusal`] in document 01's order.
 //!
 //! [`model`] is a second implementation, kept for the differential tests and the benchmark,
-//! which find the two side by side in [`both`]. [`accounts`] and [`block`] serve the tests
-//! and the samples, [`program`] the programs beside this library.
+//! which find the two side by side in [`both`]. [`accounts`], [`fields`], [`block`] and [`lent`]
+//! serve the tests and the samples, [`program`] the programs beside this library.
 
 pub mod accounts;
 pub mod block;
 pub mod both;
 pub mod ffi;
+pub mod fields;
+pub mod lent;
 pub mod model;
 pub mod program;
 pub mod text;

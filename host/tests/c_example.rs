@@ -7,13 +7,18 @@ use std::path::Path;
 use std::process::Command;
 
 const PRINTED: &str = "\
+table 1: 4 records in range
+table 2: 4 records in range
 group 1 margin 1000000
 group 2 margin 500000
+group 2 by itself: margin 500000
 strike 50000 net -1000000
 strike 60000 net 0
-accepted: groups 2, total 1500000 mills
+usm_check_sheet: accepted, groups 2, total 1500000 mills
+usm_check_file: accepted, groups 2, total 1500000 mills
 file of 1536 bytes: ACCEPT 2 1500000
 read back 4 + 4 + 2 records, the same
+usm_margin: refusal 6, table 2, place 3
 usm_check_sheet: refusal 16, table 3, place 2
 usm_write_file: refusal 1, table 0, place 0
 ";
@@ -53,4 +58,10 @@ fn the_header_and_the_rust_declarations_name_the_same_calls() {
     let header = calls_named_in(include_str!("../include/usm.h"));
     assert_eq!(header.len(), 9, "{header:?}");
     assert_eq!(header, calls_named_in(include_str!("../src/ffi.rs")));
+}
+
+#[test]
+fn the_c_example_makes_every_call_of_the_header() {
+    let header = calls_named_in(include_str!("../include/usm.h"));
+    assert_eq!(header, calls_named_in(include_str!("../c/example.c")));
 }

@@ -5,7 +5,6 @@ mod common;
 use std::collections::BTreeMap;
 use std::fs;
 use std::path::{Path, PathBuf};
-use std::process::Stdio;
 
 use usm::both::BOTH;
 use usm::{text, Sheet};
@@ -66,29 +65,6 @@ fn every_sample_prints_the_line_in_the_table() {
         for calls in &BOTH {
             assert_eq!((calls.file_line)(&files[name]), format!("{line}\n"), "{name}, {}", calls.name);
         }
-    }
-}
-
-/// The proved program: where `USM_CHECK` says, or where `rt check` puts it.
-fn checker() -> PathBuf {
-    let built = Path::new(env!("CARGO_MANIFEST_DIR")).join("../target/bin/usm_check");
-    std::env::var_os("USM_CHECK").map_or(built, PathBuf::from)
-}
-
-#[test]
-fn the_program_usm_check_prints_the_line_in_the_table() {
-    let (checker, table) = (checker(), table());
-    assert!(
-        checker.is_file(),
-        "{} is not there: `rt check usm_check` makes it, or USM_CHECK names another",
-        checker.display()
-    );
-    assert!(table.len() >= 12, "a dozen samples");
-    for (name, line) in &table {
-        let sample = fs::File::open(committed().join(name)).expect("a sample");
-        let run = common::program(&checker).stdin(Stdio::from(sample)).output().expect("usm_check runs");
-        assert_eq!(String::from_utf8_lossy(&run.stdout), format!("{line}\n"), "{name}");
-        assert!(run.status.success(), "{name}");
     }
 }
 

@@ -22,7 +22,7 @@ use Rattle.records.specs.declared.refusals.Fault.the-variants.{Nothing}
 use Rattle.records.specs.declared.tables.Kind.{Kind}
 use Rattle.records.specs.declared.tables.Kind.the-variants.{Placement}
 use Rattle.records.proofs.ListLaws.{map-all}
-use Rattle.records.proofs.ChunkLaws.{all-chunk, length-rows}
+use Rattle.records.proofs.ChunkLaws.{all-chunk, rowsFrom, rows-all, length-rows}
 use Rattle.records.proofs.OrderLaws.{clear, pass-each}
 
 -- ---- one record
@@ -104,6 +104,14 @@ claim-ranges xs e =
     }
 
 -- ---- a whole table
+
+pub legs-all : (xs : List ℕ) → rowsFrom legOf xs 0 ≡ legsOf xs
+unfolding legsOf
+legs-all xs = rows-all legOf xs
+
+pub claims-all : (xs : List ℕ) → rowsFrom claimOf xs 0 ≡ claimsOf xs
+unfolding claimsOf
+claims-all xs = rows-all claimOf xs
 
 pub length-legs : (xs : List ℕ) → length (legsOf xs) ≡ length xs / 32
 unfolding legsOf

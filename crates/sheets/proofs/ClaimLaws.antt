@@ -1,20 +1,19 @@
--- Claims as a loop over 32-byte parts sees them: numbered in order, each by its group, and added up.
-use Prim.Native.Nat.{ℕ, _+_, _-_, _*_, _/_, _≤_, _<_}
+-- Claims as a loop over records sees them: numbered in order, each by its group, and added up.
+use Prim.Native.Nat.{ℕ, _+_, _-_, _/_, _≤_, _<_}
 use mathlib.Core.Path.{_≡_, _∙_, ap}
-use mathlib.Core.Bool.{true}
 use mathlib.Core.List.{List, [], _∷_, map}
 use native.Mathlib.Omega.{arith}
-use lib.ListN.{length, getD, take, drop, List·getD-map}
+use lib.ListN.{length, getD, List·getD-map}
 use Rattle.records.specs.Chunks.{chunkAt, recordsOf}
-use Rattle.records.specs.Claims.{claimOf, goodClaim}
+use Rattle.records.specs.Claims.{mostMills, claimOf}
 use Rattle.records.specs.Order.{firstOf, refuse}
-use Rattle.records.specs.Tables.{fieldChecks, claimsOf, claimsFrom}
+use Rattle.records.specs.Tables.{fieldChecks, claimsOf}
 use Rattle.records.specs.declared.claims.Claim.{Claim}
 use Rattle.records.specs.declared.refusals.Fault.the-variants.{Nothing, Is}
 use Rattle.records.specs.declared.tables.Kind.the-variants.{Claims}
-use Rattle.records.proofs.ChunkLaws.{getD-chunks, length-chunks, part-is, claims-none, claim-next}
-use Rattle.records.proofs.ListLaws.{all-at, sum-step, sum-over}
-use Rattle.records.proofs.TableLaws.{fields-good, claim-ranges}
+use Rattle.records.proofs.ChunkLaws.{getD-chunks, rowsFrom, rows-next, rows-none}
+use Rattle.records.proofs.ListLaws.{sum-step, sum-over}
+use Rattle.records.proofs.TableLaws.{record-good, claim-ranges}
 use Rattle.sheets.specs.Sheets.{claimFor, askNumbered, totalOf}
 use Rattle.sheets.specs.Steps.{bits, askListed}
 use borrow.Author.Tests.{eq-eqb, ne-eqb}
@@ -35,29 +34,25 @@ numbered-none i l e = rw e
 
 -- ---- the claim of a group
 
-module _ (xs : List ℕ) (k : ℕ) (h : k < length xs / 32) (c : Claim) (e : c ≡ claimOf (take (32 * k + 32 - 32 * k) (drop (32 * k) xs))) where
+module _ (xs : List ℕ) (k : ℕ) (h : k < length xs / 32) (c : Claim) (e : c ≡ claimOf (chunkAt 32 xs k)) where
   pub claim-at : claimFor (claimsOf xs) (k + 1) ≡ c .margin
   unfolding claimFor claimsOf claimOf
   claim-at =
       let n : k + 1 - 1 ≡ k = omega arith in
-      rw (n, e, part-is 32 k xs)
+      rw (n, e)
       (List·getD-map (λ c. c .margin) (map claimOf (recordsOf xs)) k (claimOf [])
       ∙ ap (λ (c : Claim). c .margin) (List·getD-map claimOf (recordsOf xs) k [] ∙ ap claimOf (getD-chunks 32 (length xs / 32) k xs h)))
 
-  pub claim-small : firstOf (fieldChecks Claims xs) ≡ Nothing → c .margin ≤ 2560000000000000000
-  claim-small good =
-      let l : k < length (recordsOf xs) = rw (length-chunks 32 (length xs / 32) xs) h in
-      let g : goodClaim (chunkAt 32 xs k) ≡ true =
-      rw (getD-chunks 32 (length xs / 32) k xs h) at (all-at (λ r. goodClaim r ≡ true) (recordsOf xs) k [] (fields-good Claims xs good) l) in
-      rw (e, part-is 32 k xs) (claim-ranges (chunkAt 32 xs k) g .margin)
+  pub claim-small : firstOf (fieldChecks Claims xs) ≡ Nothing → c .margin ≤ mostMills
+  claim-small good = rw e (claim-ranges (chunkAt 32 xs k) (record-good Claims xs k good h) .margin)
 
-  pub total-step : totalOf (claimsFrom xs k) ≡ c .margin + totalOf (claimsFrom xs (k + 1))
+  pub total-step : totalOf (rowsFrom claimOf xs k) ≡ c .margin + totalOf (rowsFrom claimOf xs (k + 1))
   unfolding totalOf
-  total-step = sum-step _ c (claimsFrom xs k) (claimsFrom xs (k + 1)) (claim-next xs k c h e)
+  total-step = sum-step _ c (rowsFrom claimOf xs k) (rowsFrom claimOf xs (k + 1)) (rows-next claimOf xs k c h e)
 
-pub total-over : (xs : List ℕ) (k : ℕ) → length xs / 32 ≤ k → totalOf (claimsFrom xs k) ≡ 0
+pub total-over : (xs : List ℕ) (k : ℕ) → length xs / 32 ≤ k → totalOf (rowsFrom claimOf xs k) ≡ 0
 unfolding totalOf
-total-over xs k h = sum-over _ (claimsFrom xs k) (claims-none xs k h)
+total-over xs k h = sum-over _ (rowsFrom claimOf xs k) (rows-none claimOf xs k h)
 
 -- a claim against a list of margins
 module _ (margins : List ℤ) (c : List Claim) (k m : ℕ) (e : claimFor c (k + 1) ≡ m) where

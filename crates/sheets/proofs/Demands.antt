@@ -1,4 +1,4 @@
--- The demands of specs/Demands.antt, proved: of lists of legs and claims, then of the bytes of the tables.
+-- The demands of specs/Demands.antt, proved.
 use mathlib.Core.Path.{_≡_, refl}
 use mathlib.Core.Logic.{_↔_}
 use mathlib.Core.List.{List}
@@ -6,6 +6,7 @@ use Prim.Native.Nat.{ℕ, _≤_, _<_}
 use native.Mathlib.Omega.{arith}
 use lib.IntN.{ℤ, pos}
 use lib.ListN.{length}
+use Rattle.records.specs.Claims.{mostMills}
 use Rattle.records.specs.Lists.{All}
 use Rattle.records.specs.Order.{firstOf}
 use Rattle.records.specs.Tables.{legsOf, claimsOf, fieldChecks}
@@ -15,15 +16,13 @@ use Rattle.records.specs.declared.tables.Kind.the-variants.{Placement}
 use Rattle.records.proofs.OrderLaws.{unclear}
 use Rattle.records.proofs.TableLaws.{Ranges, placement-ranges, length-legs, whole}
 use Rattle.spreads.specs.Spreads.{groupOf}
-use Rattle.sheets.specs.Demands.{Covers, Sound, Kept, AcceptedJust, AcceptedCovers, AcceptedLeast, AcceptedLimit}
+use Rattle.sheets.specs.Demands.{Covers, Sound, Kept, AcceptedJust, AcceptedCovers, AcceptedLeast, AcceptedLimit, NetsLimit}
 use Rattle.sheets.specs.Sheets.{claimFor, totalOf, sheetChecks}
 use Rattle.sheets.specs.Verdicts.{verdictIn, verdictOf}
 use Rattle.sheets.specs.declared.sheet.Verdict.the-variants.{Accepted as Accepted-verdict}
 use Rattle.sheets.proofs.SheetCover.{group-cover, sheet-cover, group-least}
 use Rattle.sheets.proofs.Judged.{fields-pass, passes-kept, kept-passes}
-use Rattle.sheets.proofs.Limits.{limit, total-limit}
-
--- ---- of the bytes of the three tables
+use Rattle.sheets.proofs.Limits.{net-limit, total-limit}
 
 verdict-is : (f : Fault) (n t m : ℕ) (z : ℤ) → verdictIn f n t ≡ Accepted-verdict m z → (f ≡ Nothing) × (m ≡ n) × (z ≡ pos t)
 verdict-is Nothing n t m z e = (refl, (cc), (cc))
@@ -62,7 +61,7 @@ module _ (h p c : List ℕ) (n : ℕ) where
     accepted-covers = rw amount (sheet-cover (legsOf h) (legsOf p) (claimsOf c) (kept .rule))
 
     -- 'no accepted sheet's total passes 2,560,000,000,000,000,000'
-    pub accepted-limit : total ≤ limit
+    pub accepted-limit : total ≤ mostMills
     accepted-limit =
         omega (
           arith,
@@ -80,7 +79,7 @@ module _ (h p c : List ℕ) (n : ℕ) where
       accepted-claim-least = group-least (legsOf h) (legsOf p) (claimsOf c) (kept .rule) g low (omega (arith, count))
 
 -- the total of a sheet that is not refused, for the code that adds it up
-pub passed-limit : (h p c : List ℕ) → firstOf (sheetChecks h p c) ≡ Nothing → totalOf (claimsOf c) ≤ limit
+pub passed-limit : (h p c : List ℕ) → firstOf (sheetChecks h p c) ≡ Nothing → totalOf (claimsOf c) ≤ mostMills
 unfolding verdictOf
 passed-limit h p c e = accepted-limit h p c (length (claimsOf c)) (totalOf (claimsOf c)) (rw e refl)
 
@@ -97,3 +96,6 @@ least h p c n total e g low high = (accepted-claim-covers h p c n total e g low 
 
 pub within-limit : AcceptedLimit
 within-limit = accepted-limit
+
+pub nets-within-limit : NetsLimit
+nets-within-limit p s = net-limit (legsOf p) (placed-ranges p s) (placed-few p s)

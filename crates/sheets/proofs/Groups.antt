@@ -7,10 +7,15 @@ use native.Mathlib.Omega.{arith}
 use lib.Dec.{leb, eqb}
 use lib.ListN.{length}
 use borrow.Author.Tests.{eq-eqb, ne-eqb, le-leb, lt-leb}
-use Rattle.records.specs.Lists.{only, sum, keep, All, total}
+use Rattle.records.specs.Lists.{only, sum, keep, All}
 use Rattle.records.specs.declared.claims.Claim.{Claim}
 use Rattle.records.proofs.ListLaws.{all-map, every, sum-lin, sum-ext, sum-keep}
 use Rattle.sheets.specs.Sheets.{claimFor, totalOf}
+
+-- F 1 + .. + F n
+unfoldable pub total : ℕ → (ℕ → ℕ) → ℕ
+total zero F = 0
+total (suc n) F = total n F + F (suc n)
 
 -- ---- a sum by groups
 

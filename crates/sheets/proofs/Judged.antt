@@ -23,7 +23,7 @@ use Rattle.spreads.specs.Spreads.{groupOf, spreadChecks}
 use Rattle.spreads.proofs.RuleLaws.{pass-spread, spread-pass}
 use Rattle.sheets.specs.Demands.{Sound, Kept}
 use Rattle.sheets.specs.Lines.{contractsOf, evenAt}
-use Rattle.sheets.specs.Sheets.{Numbered, Accepted, askNumbered, askNamed, askPlaced, askClaim, askLines, groupsRule, ruleChecks, tablesChecks, sheetChecks}
+use Rattle.sheets.specs.Sheets.{Numbered, Accepted, askNumbered, askNamed, askPlaced, askClaim, askLines, spreadsRule, ruleChecks, tablesChecks, sheetChecks}
 use Rattle.sheets.proofs.LineLaws.{even-everywhere}
 
 -- ---- each stage and its fact
@@ -76,7 +76,7 @@ pass-parts a b p = (pass-left a b p, pass-right a b p)
 -- ---- the rule of a sheet
 
 pub pass-rule : (h p : List Leg) (c : List Claim) → Pass (ruleChecks h p c) → Accepted h p c
-unfolding ruleChecks groupsRule
+unfolding ruleChecks spreadsRule
 pass-rule h p c a =
     let s = pass-parts (askNumbered 0 c) _ a in
     let named = pass-parts (askNamed (length c) p) _ (s .1) in
@@ -93,7 +93,7 @@ pass-rule h p c a =
     }
 
 pub rule-pass : (h p : List Leg) (c : List Claim) → Accepted h p c → Pass (ruleChecks h p c)
-unfolding ruleChecks groupsRule
+unfolding ruleChecks spreadsRule
 rule-pass h p c ok =
     pass-both (askNumbered 0 c) _ (numbered-pass 0 c (ok .numbered))
     (pass-both (askNamed (length c) p) _ (each-pass _ 5 2 0 p (all-map p (λ l q. le-leb (l .group) (length c) q) (ok .named)))

@@ -1,4 +1,3 @@
-pub mod SearchLaws
 pub mod ContractLaws
 pub mod ClaimLaws
 pub mod Held

@@ -24,7 +24,7 @@ use Rattle.spreads.specs.Strikes.{marginOf}
 use Rattle.spreads.specs.declared.calls.Listed.the-variants.{Entries, Refused}
 use Rattle.spreads.proofs.Answers.{margin-at, length-margins}
 use Rattle.sheets.proofs.Judged.{pass-tables, fields-pass}
-use Rattle.sheets.specs.Sheets.{askClaim, lastChecks, groupsRule}
+use Rattle.sheets.specs.Sheets.{askClaim, lastChecks, spreadsRule}
 use Rattle.sheets.specs.Steps.{Tabled, askListed, listedChecks}
 
 -- ---- what tables that passed 1 and 4 are
@@ -94,16 +94,16 @@ listed-same h p c d =
 
 module _ (h p c : List ℕ) (t : Tabled h p c) where
   pub groups-refused : (r : Refusal) → marginsCall p (length c / 32) 32 ≡ Refused r
-      → Is r ≡ firstOf (groupsRule (legsOf h) (legsOf p) (claimsOf c))
-  unfolding groupsRule
+      → Is r ≡ firstOf (spreadsRule (legsOf h) (legsOf p) (claimsOf c))
+  unfolding spreadsRule
   groups-refused r e =
       let f = tabled-facts h p c t in
       rw (first-append, length-claims c, margins-refused p (length c / 32) (f .claims) (f .placed) r e) refl
 
   pub groups-entries : (m : ℕ) → marginsCall p (length c / 32) 32 ≡ Entries m
       → (d margins : List ℤ) → margins ≡ putAt d 0 (marginsFrom (legsOf p) 1 (length c / 32))
-      → firstOf (listedChecks (legsOf h) (legsOf p) (claimsOf c) margins) ≡ firstOf (groupsRule (legsOf h) (legsOf p) (claimsOf c))
-  unfolding groupsRule
+      → firstOf (listedChecks (legsOf h) (legsOf p) (claimsOf c) margins) ≡ firstOf (spreadsRule (legsOf h) (legsOf p) (claimsOf c))
+  unfolding spreadsRule
   groups-entries m e d margins q =
       let f = tabled-facts h p c t in
       let n = length-claims c in

@@ -6,15 +6,16 @@ use mathlib.Core.Bool.{true}
 use mathlib.Core.Logic.{_↔_}
 use mathlib.Core.List.{List}
 use Prim.Native.Nat.{ℕ, _+_, _*_, _≤_, _<_}
-use lib.IntN.{ℤ, pos}
+use lib.IntN.{ℤ, pos, natAbs}
 use lib.ListN.{length}
 use Rattle.records.specs.Chunks.{recordsOf}
+use Rattle.records.specs.Claims.{mostMills}
 use Rattle.records.specs.Lists.{All}
 use Rattle.records.specs.Tables.{goodRecord, wholeTable, legsOf, claimsOf}
 use Rattle.records.specs.declared.legs.Leg.{Leg}
 use Rattle.records.specs.declared.tables.Kind.{Kind}
 use Rattle.records.specs.declared.tables.Kind.the-variants.{Holdings, Placement, Claims}
-use Rattle.spreads.specs.Prices.{longAt, shortAt}
+use Rattle.spreads.specs.Prices.{longAt, shortAt, at, net}
 use Rattle.spreads.specs.Spreads.{groupOf}
 use Rattle.sheets.specs.Sheets.{claimFor, totalOf, Accepted}
 use Rattle.sheets.specs.Verdicts.{verdictOf}
@@ -54,4 +55,10 @@ AcceptedLeast = (h p c : List ℕ) (n total : ℕ) → verdictOf h p c ≡ Accep
 
 -- 'no accepted sheet's total passes 2,560,000,000,000,000,000'
 abbrev pub AcceptedLimit : Type 0
-AcceptedLimit = (h p c : List ℕ) (n total : ℕ) → verdictOf h p c ≡ Accepted-verdict n (pos total) → total ≤ 2560000000000000000
+AcceptedLimit = (h p c : List ℕ) (n total : ℕ) → verdictOf h p c ≡ Accepted-verdict n (pos total) → total ≤ mostMills
+
+-- 'no net, no part of one .. passes' it: at every price that a strike can have
+abbrev pub NetsLimit : Type 0
+NetsLimit = (p : List ℕ) → Sound Placement p → (g k : ℕ) → k ≤ 99999999
+    → (longAt 1 (at k) (groupOf g (legsOf p)) ≤ mostMills) × (shortAt 1 (at k) (groupOf g (legsOf p)) ≤ mostMills)
+    × (natAbs (net (groupOf g (legsOf p)) k) ≤ mostMills)

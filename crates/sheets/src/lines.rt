@@ -3,10 +3,11 @@ ghost use mathlib.Core.Path.{_≡_};
 ghost use Prim.Native.Nat.{_≤_};
 ghost use lib.ListN.{length};
 ghost use Rattle.records.specs.Order.{firstOf, askEach};
-ghost use Rattle.records.specs.Tables.{legsOf};
+ghost use Rattle.records.specs.Tables.{tableNumber, legsOf};
 ghost use Rattle.sheets.specs.Lines.{sameLine, sameLineSide, contractsOf, evenAt};
 ghost use Rattle.sheets.specs.Sheets.{askLines, askPlaced};
 use records::Fault;
+use records::Kind;
 use records::Leg;
 use records::RECORD_BYTES;
 use records::Refusal;
@@ -43,9 +44,7 @@ fn contracts_of(leg: Leg, table: &[u8]) -> u64
     let mut contracts: u64 = 0;
     let mut i: usize = 0;
     while i < n {
-        let at = RECORD_BYTES * i;
-        let end = at + RECORD_BYTES;
-        let other = records::leg_of(&table[at..end]);
+        let other = records::leg_at(table, i);
         if same_line_side(leg, other) {
             contracts += other.contracts.number() as u64;
         }
@@ -55,22 +54,20 @@ fn contracts_of(leg: Leg, table: &[u8]) -> u64
 }
 
 // The first record of one of the two tables whose line and side has differing sums.
-fn first_uneven(holdings: &[u8], placement: &[u8], table: &[u8], number: u8) -> Fault
+fn first_uneven(holdings: &[u8], placement: &[u8], table: &[u8], kind: Kind) -> Fault
     requires { ⌜ (length (now holdings) ≤ 8192) × (length (now placement) ≤ 8192) ⌝ }
-    ensures { λ r. ⌜ r ≡ firstOf (askEach (evenAt (legsOf (now (holdings .entry))) (legsOf (now (placement .entry)))) 14 number 0 (legsOf (now (table .entry)))) ⌝ }
+    ensures { λ r. ⌜ r ≡ firstOf (askEach (evenAt (legsOf (now (holdings .entry))) (legsOf (now (placement .entry)))) 14 (tableNumber kind) 0 (legsOf (now (table .entry)))) ⌝ }
 {
     let n = table.len() / RECORD_BYTES;
     let mut i: usize = 0;
     while i < n {
-        let at = RECORD_BYTES * i;
-        let end = at + RECORD_BYTES;
-        let leg = records::leg_of(&table[at..end]);
+        let leg = records::leg_at(table, i);
         if contracts_of(leg, holdings) == contracts_of(leg, placement) {
             i += 1;
         } else {
             return Fault::Is(Refusal {
                 number: 14,
-                table: number,
+                table: records::table_number(kind),
                 place: i,
             });
         }
@@ -83,9 +80,9 @@ pub(crate) fn lines_fault(holdings: &[u8], placement: &[u8]) -> Fault
     requires { ⌜ (length (now holdings) ≤ 8192) × (length (now placement) ≤ 8192) ⌝ }
     ensures { λ r. ⌜ r ≡ firstOf (askLines (legsOf (now (holdings .entry))) (legsOf (now (placement .entry)))) ⌝ }
 {
-    match first_uneven(holdings, placement, holdings, 1) {
+    match first_uneven(holdings, placement, holdings, Kind::Holdings) {
         Fault::Is(refusal) => Fault::Is(refusal),
-        Fault::Nothing => first_uneven(holdings, placement, placement, 2),
+        Fault::Nothing => first_uneven(holdings, placement, placement, Kind::Placement),
     }
 }
 
@@ -96,9 +93,7 @@ pub(crate) fn placed_fault(placement: &[u8]) -> Fault
     let n = placement.len() / RECORD_BYTES;
     let mut i: usize = 0;
     while i < n {
-        let at = RECORD_BYTES * i;
-        let end = at + RECORD_BYTES;
-        let leg = records::leg_of(&placement[at..end]);
+        let leg = records::leg_at(placement, i);
         if (leg.side == 2) & (leg.group == 0) {
             return Fault::Is(Refusal {
                 number: 15,

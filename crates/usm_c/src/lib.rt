@@ -1,20 +1,16 @@
-// The calls of the library for C and Rust. Slices pass as a pointer and a length; each answer is four
-// words: 0 and the results, or a refusal's number, table and place, and 0. No function has a `requires`.
+// The calls of the library for C and Rust. Slices pass as a pointer and a length. The answer of every
+// call but the last is four words: 0 and the results, or a refusal's number, table and place, and 0.
+// No public function has a `requires`.
 ghost use mathlib.Core.Path.{_≡_};
 ghost use lib.ListN.{length};
-ghost use Rattle.records.specs.Tables.{legsOf};
 ghost use Rattle.records.specs.Written.{putAt};
 ghost use Rattle.records.specs.declared.tables.Kind.the-variants.{Holdings, Placement, Claims};
 ghost use Rattle.blocks.specs.File.{tables};
-ghost use Rattle.blocks.specs.Reader.{readOf, leaves};
-ghost use Rattle.blocks.specs.Writer.{writeOf, filled};
-ghost use Rattle.spreads.specs.Spreads.{groupOf};
-ghost use Rattle.spreads.specs.Strikes.{strikesOf, netsOf};
-ghost use Rattle.spreads.specs.Calls.{marginCall, marginsCall, marginsFrom, worksheetCall, listLeft};
+ghost use Rattle.spreads.specs.Calls.{marginCall};
 ghost use Rattle.sheets.specs.Verdicts.{verdictOf};
 ghost use Rattle.verdicts.specs.FileVerdicts.{fileVerdict};
-ghost use Rattle.verdicts.specs.Printed.{lineOf};
-ghost use Rattle.usm_c.specs.Answers.{dueWords, listedWords, verdictWords, readingWords, writingWords, tableWords};
+ghost use Rattle.usm_c.specs.Answers.{dueWords, verdictWords, tableWords};
+ghost use Rattle.usm_c.specs.Outcomes.{marginsWords, marginsLeft, worksheetWords, strikesLeft, netsLeft, readWords, tableLeft, writeWords, outLeft, fileLine};
 
 mod words;
 
@@ -44,8 +40,8 @@ pub extern "C" fn usm_margin(placement: &[u8], g: u64, answer: &mut [u64; 4])
 // The margins of groups 1 to n.
 #[no_mangle]
 pub extern "C" fn usm_margins(placement: &[u8], n: u64, out: &mut [i64], answer: &mut [u64; 4])
-    ensures { λ _. ⌜ now (answer .exit) ≡ listedWords (marginsCall (now (placement .entry)) n (length (now (out .entry)))) ⌝ }
-    ensures { λ _. ⌜ now (out .exit) ≡ listLeft (marginsCall (now (placement .entry)) n (length (now (out .entry)))) (marginsFrom (legsOf (now (placement .entry))) 1 n) (now (out .entry)) ⌝ }
+    ensures { λ _. ⌜ now (answer .exit) ≡ marginsWords (now (placement .entry)) n (now (out .entry)) ⌝ }
+    ensures { λ _. ⌜ now (out .exit) ≡ marginsLeft (now (placement .entry)) n (now (out .entry)) ⌝ }
 {
     *answer = listed_words(spreads::margins(placement, n as usize, out));
 }
@@ -59,9 +55,9 @@ pub extern "C" fn usm_worksheet(
     nets: &mut [i64],
     answer: &mut [u64; 4],
 )
-    ensures { λ _. ⌜ now (answer .exit) ≡ listedWords (worksheetCall (now (placement .entry)) g (length (now (strikes .entry))) (length (now (nets .entry)))) ⌝ }
-    ensures { λ _. ⌜ now (strikes .exit) ≡ listLeft (worksheetCall (now (placement .entry)) g (length (now (strikes .entry))) (length (now (nets .entry)))) (strikesOf (groupOf g (legsOf (now (placement .entry))))) (now (strikes .entry)) ⌝ }
-    ensures { λ _. ⌜ now (nets .exit) ≡ listLeft (worksheetCall (now (placement .entry)) g (length (now (strikes .entry))) (length (now (nets .entry)))) (netsOf (groupOf g (legsOf (now (placement .entry))))) (now (nets .entry)) ⌝ }
+    ensures { λ _. ⌜ now (answer .exit) ≡ worksheetWords (now (placement .entry)) g (now (strikes .entry)) (now (nets .entry)) ⌝ }
+    ensures { λ _. ⌜ now (strikes .exit) ≡ strikesLeft (now (placement .entry)) g (now (strikes .entry)) (now (nets .entry)) ⌝ }
+    ensures { λ _. ⌜ now (nets .exit) ≡ netsLeft (now (placement .entry)) g (now (strikes .entry)) (now (nets .entry)) ⌝ }
 {
     *answer = listed_words(spreads::worksheet(placement, g as usize, strikes, nets));
 }
@@ -96,10 +92,10 @@ pub extern "C" fn usm_read_file(
     claims: &mut [u8],
     answer: &mut [u64; 4],
 )
-    ensures { λ _. ⌜ now (answer .exit) ≡ readingWords (readOf (now (file .entry)) (length (now (holdings .entry))) (length (now (placement .entry))) (length (now (claims .entry)))) ⌝ }
-    ensures { λ _. ⌜ now (holdings .exit) ≡ leaves (readOf (now (file .entry)) (length (now (holdings .entry))) (length (now (placement .entry))) (length (now (claims .entry)))) Holdings (now (file .entry)) (now (holdings .entry)) ⌝ }
-    ensures { λ _. ⌜ now (placement .exit) ≡ leaves (readOf (now (file .entry)) (length (now (holdings .entry))) (length (now (placement .entry))) (length (now (claims .entry)))) Placement (now (file .entry)) (now (placement .entry)) ⌝ }
-    ensures { λ _. ⌜ now (claims .exit) ≡ leaves (readOf (now (file .entry)) (length (now (holdings .entry))) (length (now (placement .entry))) (length (now (claims .entry)))) Claims (now (file .entry)) (now (claims .entry)) ⌝ }
+    ensures { λ _. ⌜ now (answer .exit) ≡ readWords (now (file .entry)) (tables (now (holdings .entry)) (now (placement .entry)) (now (claims .entry))) ⌝ }
+    ensures { λ _. ⌜ now (holdings .exit) ≡ tableLeft Holdings (now (file .entry)) (tables (now (holdings .entry)) (now (placement .entry)) (now (claims .entry))) ⌝ }
+    ensures { λ _. ⌜ now (placement .exit) ≡ tableLeft Placement (now (file .entry)) (tables (now (holdings .entry)) (now (placement .entry)) (now (claims .entry))) ⌝ }
+    ensures { λ _. ⌜ now (claims .exit) ≡ tableLeft Claims (now (file .entry)) (tables (now (holdings .entry)) (now (placement .entry)) (now (claims .entry))) ⌝ }
 {
     *answer = reading_words(blocks::read_file(file, holdings, placement, claims));
 }
@@ -113,8 +109,8 @@ pub extern "C" fn usm_write_file(
     out: &mut [u8],
     answer: &mut [u64; 4],
 )
-    ensures { λ _. ⌜ now (answer .exit) ≡ writingWords (writeOf (tables (now (holdings .entry)) (now (placement .entry)) (now (claims .entry))) (length (now (out .entry)))) ⌝ }
-    ensures { λ _. ⌜ now (out .exit) ≡ filled (writeOf (tables (now (holdings .entry)) (now (placement .entry)) (now (claims .entry))) (length (now (out .entry)))) (tables (now (holdings .entry)) (now (placement .entry)) (now (claims .entry))) (now (out .entry)) ⌝ }
+    ensures { λ _. ⌜ now (answer .exit) ≡ writeWords (tables (now (holdings .entry)) (now (placement .entry)) (now (claims .entry))) (now (out .entry)) ⌝ }
+    ensures { λ _. ⌜ now (out .exit) ≡ outLeft (tables (now (holdings .entry)) (now (placement .entry)) (now (claims .entry))) (now (out .entry)) ⌝ }
 {
     *answer = writing_words(blocks::write_file(holdings, placement, claims, out));
 }
@@ -122,8 +118,8 @@ pub extern "C" fn usm_write_file(
 // The line that is printed for a sheet file; the answer is its length.
 #[no_mangle]
 pub extern "C" fn usm_file_line(file: &[u8], line: &mut [u8; 64]) -> usize
-    ensures { λ r. ⌜ r ≡ length (lineOf (fileVerdict (now (file .entry)))) ⌝ }
-    ensures { λ _. ⌜ now (line .exit) ≡ putAt (now (line .entry)) 0 (lineOf (fileVerdict (now (file .entry)))) ⌝ }
+    ensures { λ r. ⌜ r ≡ length (fileLine (now (file .entry))) ⌝ }
+    ensures { λ _. ⌜ now (line .exit) ≡ putAt (now (line .entry)) 0 (fileLine (now (file .entry))) ⌝ }
 {
     verdicts::verdict_line(verdicts::check_file(file), line)
 }

@@ -14,7 +14,7 @@ use Rattle.blocks.specs.Reader.{readChecks, countsOf, readOf, leaves}
 use Rattle.blocks.specs.Steps.{judged}
 use Rattle.blocks.specs.declared.reader.Counts.{Counts}
 use Rattle.blocks.specs.declared.reader.Reading.the-variants.{Read, Refused as Refused-reading}
-use Rattle.blocks.proofs.ReadLaws.{Bytes, read-bytes, judged-good, judged-refused}
+use Rattle.blocks.proofs.ReadLaws.{TableBytes, read-bytes, judged-good, judged-refused}
 use Rattle.blocks.proofs.TablesFit.{read-roomy}
 use Rattle.sheets.specs.Verdicts.{verdictOf}
 use Rattle.sheets.specs.declared.sheet.Verdict.the-variants.{Refused}
@@ -33,7 +33,7 @@ module _ (file : List ℕ) where
     passed : (firstOf (readChecks file) ≡ Nothing) × (countsOf (tablesIn file) ≡ n)
     passed = judged-good file n (sym read-whole ∙ e)
 
-    bytes : Bytes file n
+    bytes : TableBytes file n
     bytes = read-bytes file n (passed .0) (sym (passed .1))
 
     module _ (d₁ d₂ d₃ h p c : List ℕ) (e₁ : h ≡ leaves (Read n) Holdings file d₁) (e₂ : p ≡ leaves (Read n) Placement file d₂)

@@ -1,15 +1,9 @@
 //! "The file": 1 to 39 blocks of 512 bytes.
 
 use super::tables::Tables;
+use crate::block::{BLOCK_BYTES, CHECKS_AT, MARK, MOST_BLOCKS, RECORDS_AT, RECORDS_IN_BLOCK};
 use crate::records::{Table, RECORD_BYTES};
 use crate::refusal::Refusal;
-
-const BLOCK_BYTES: usize = 512;
-const MOST_BLOCKS: usize = 39;
-const RECORDS_IN_BLOCK: usize = 15;
-const MARK: [u8; 4] = *b"USM1";
-const HEADER: usize = 16;
-const CHECKS: usize = 508;
 
 /// The records of a file by kind, as bytes, before their fields are looked at.
 #[derive(Default)]
@@ -33,7 +27,7 @@ pub fn parts(file: &[u8]) -> Result<Parts, Refusal> {
     let mut parts = Parts::default();
     let mut previous: Option<Header> = None;
     for (number, block) in file.chunks_exact(BLOCK_BYTES).enumerate() {
-        if checks(block) != (u16_at(block, CHECKS), u16_at(block, CHECKS + 2)) {
+        if checks(block) != (u16_at(block, CHECKS_AT), u16_at(block, CHECKS_AT + 2)) {
             return Err(Refusal::new(2, 0, number as u64));
         }
         let out_of_form = Refusal::new(3, 0, number as u64);
@@ -42,7 +36,7 @@ pub fn parts(file: &[u8]) -> Result<Parts, Refusal> {
             return Err(out_of_form);
         }
         let table = &mut parts.by_kind[header.kind as usize - 1];
-        table.extend_from_slice(&block[HEADER..header.records_end()]);
+        table.extend_from_slice(&block[RECORDS_AT..header.records_end()]);
         if table.len() > header.kind.most_bytes() {
             return Err(out_of_form);
         }
@@ -59,7 +53,7 @@ struct Header {
 
 impl Header {
     fn records_end(&self) -> usize {
-        HEADER + self.records * RECORD_BYTES
+        RECORDS_AT + self.records * RECORD_BYTES
     }
 }
 
@@ -71,8 +65,8 @@ fn header(block: &[u8], number: usize, blocks: usize) -> Option<Header> {
         && (1..=RECORDS_IN_BLOCK).contains(&header.records)
         && usize::from(u16_at(block, 6)) == number
         && usize::from(u16_at(block, 8)) == blocks
-        && is_zero(&block[10..HEADER])
-        && is_zero(&block[header.records_end()..CHECKS]);
+        && is_zero(&block[10..RECORDS_AT])
+        && is_zero(&block[header.records_end()..CHECKS_AT]);
     in_form.then_some(header)
 }
 
@@ -107,18 +101,18 @@ pub fn fill(tables: &Tables, out: &mut [u8]) {
         block[5] = (records.len() / RECORD_BYTES) as u8;
         block[6..8].copy_from_slice(&(number as u16).to_le_bytes());
         block[8..10].copy_from_slice(&blocks.to_le_bytes());
-        block[HEADER..HEADER + records.len()].copy_from_slice(records);
+        block[RECORDS_AT..RECORDS_AT + records.len()].copy_from_slice(records);
         let (a, b) = checks(block);
-        block[CHECKS..CHECKS + 2].copy_from_slice(&a.to_le_bytes());
-        block[CHECKS + 2..].copy_from_slice(&b.to_le_bytes());
+        block[CHECKS_AT..CHECKS_AT + 2].copy_from_slice(&a.to_le_bytes());
+        block[CHECKS_AT + 2..].copy_from_slice(&b.to_le_bytes());
     }
 }
 
 /// Check A is the sum of bytes 0 to 507, check B weighs byte i by 508 - i.
 fn checks(block: &[u8]) -> (u16, u16) {
-    let bytes = block[..CHECKS].iter().map(|&byte| u32::from(byte));
+    let bytes = block[..CHECKS_AT].iter().map(|&byte| u32::from(byte));
     let a: u32 = bytes.clone().sum();
-    let b: u32 = bytes.enumerate().map(|(i, byte)| (CHECKS - i) as u32 * byte).sum();
+    let b: u32 = bytes.enumerate().map(|(i, byte)| (CHECKS_AT - i) as u32 * byte).sum();
     (a as u16, b as u16)
 }
 

@@ -2,6 +2,7 @@
 
 mod names;
 mod parse;
+mod record;
 mod show;
 mod words;
 

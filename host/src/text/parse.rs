@@ -1,11 +1,8 @@
 //! From text to a sheet, with errors that say where and what was expected.
 
-use super::names::{MARKETS, SIDES, STYLES, TYPES};
-use super::words::{digits, TextError, Words};
-use crate::records::{
-    is_expiry, Claim, Leg, Side, GREATEST_AMOUNT, GREATEST_STRIKE, GREATEST_UNIT_SIZE, MOST_CLAIMS,
-    MOST_CONTRACTS, MOST_LEGS,
-};
+use super::record::{claim, holding, placed_leg};
+use super::words::{TextError, Words};
+use crate::records::{MOST_CLAIMS, MOST_LEGS};
 use crate::sheet::Sheet;
 
 #[derive(Clone, Copy, PartialEq, Eq, PartialOrd)]
@@ -59,84 +56,33 @@ fn section_named(word: &str) -> Option<Section> {
     }
 }
 
+/// Reads a line of a section, if its table may have one more.
 fn record(section: Section, words: &mut Words, sheet: &mut Sheet) -> Result<(), TextError> {
+    let room = |records: usize, most: usize, what: &str| {
+        if records < most {
+            Ok(())
+        } else {
+            Err(words.error(&format!("no more than {most} {what}")))
+        }
+    };
     match section {
         Section::Start => Err(words.error("the section `holdings`, `placement` or `claims`")),
-        Section::Holdings if sheet.holdings.len() == MOST_LEGS => {
-            Err(words.error(&format!("no more than {MOST_LEGS} holdings")))
-        }
         Section::Holdings => {
-            let side = words.choose(SIDES, ", or the section `placement` or `claims`")?;
-            sheet.holdings.push(leg(0, side, words)?);
+            room(sheet.holdings.len(), MOST_LEGS, "holdings")?;
+            sheet.holdings.push(holding(words)?);
             Ok(())
-        }
-        Section::Placement if sheet.placement.len() == MOST_LEGS => {
-            Err(words.error(&format!("no more than {MOST_LEGS} records in the placement")))
         }
         Section::Placement => {
-            let group = placed_group(words)?;
-            let side = words.choose(SIDES, "")?;
-            sheet.placement.push(leg(group, side, words)?);
+            room(sheet.placement.len(), MOST_LEGS, "records in the placement")?;
+            sheet.placement.push(placed_leg(words)?);
             Ok(())
-        }
-        Section::Claims if sheet.claims.len() == MOST_CLAIMS => {
-            Err(words.error(&format!("no more than {MOST_CLAIMS} claims")))
         }
         Section::Claims => {
-            words.word("claim")?;
-            let group = group(words)?;
-            let margin =
-                words.number("a margin in whole mills, 1000000 for 1,000 dollars,", 0..=GREATEST_AMOUNT)?;
-            sheet.claims.push(Claim { group, margin });
+            room(sheet.claims.len(), MOST_CLAIMS, "claims")?;
+            sheet.claims.push(claim(words)?);
             Ok(())
         }
     }
-}
-
-fn placed_group(words: &mut Words) -> Result<u16, TextError> {
-    let placed = words.choose([("group", true), ("unplaced", false)], ", or the section `claims`")?;
-    if placed {
-        group(words)
-    } else {
-        Ok(0)
-    }
-}
-
-fn group(words: &mut Words) -> Result<u16, TextError> {
-    words.number("a group", 1..=MOST_CLAIMS as u16)
-}
-
-/// What follows the side, in the order of the text.
-fn leg(group: u16, side: Side, words: &mut Words) -> Result<Leg, TextError> {
-    let contracts = words.number("contracts", 1..=MOST_CONTRACTS)?;
-    let option_type = words.choose(TYPES, "")?;
-    let strike = words.value("a strike in dollars from 0.001 to 99999.999", mills)?;
-    let expiry = words.value("an expiry YYYY-MM-DD, a real date from 2000-01-01 to 2099-12-31", date)?;
-    words.word("unit")?;
-    let unit_size = words.number("a unit size", 1..=GREATEST_UNIT_SIZE)?;
-    words.word("underlying")?;
-    let underlying = words.number("an underlying", 1..=u32::MAX)?;
-    let style = words.choose(STYLES, "")?;
-    let market = words.choose(MARKETS, "")?;
-    Ok(Leg { group, side, option_type, style, market, unit_size, underlying, strike, expiry, contracts })
-}
-
-/// Dollars with up to three decimals, as mills.
-fn mills(word: &str) -> Option<u32> {
-    let (dollars, decimals) = word.split_once('.').unwrap_or((word, "0"));
-    if decimals.len() > 3 {
-        return None;
-    }
-    let part = digits(&format!("{decimals:0<3}")).filter(|_| !decimals.is_empty())?;
-    let strike = digits(dollars)?.checked_mul(1_000)?.checked_add(part)?;
-    u32::try_from(strike).ok().filter(|strike| (1..=GREATEST_STRIKE).contains(strike))
-}
-
-/// YYYY-MM-DD as the number YYYYMMDD.
-fn date(word: &str) -> Option<u32> {
-    let shape: Vec<usize> = word.split('-').map(str::len).collect();
-    let number = digits(&word.replace('-', "")).and_then(|number| u32::try_from(number).ok())?;
-    (shape == [4, 2, 2] && is_expiry(number)).then_some(number)
 }
 
 #[cfg(test)]
@@ -148,29 +94,6 @@ mod tests {
     }
 
     const LEG: &str = "long 1 call 60 2011-05-21 unit 100 underlying 7 american listed";
-
-    #[test]
-    fn dollars_become_mills() {
-        assert_eq!(
-            ["60", "60.5", "60.50", "60.500", "0.001", "99999.999"].map(mills),
-            [Some(60_000), Some(60_500), Some(60_500), Some(60_500), Some(1), Some(99_999_999),]
-        );
-        for bad in
-            ["", ".", "60.", ".5", "60.0001", "0", "0.000", "100000", "-1", "+1", "1e3", "6 0", "60.-1"]
-        {
-            assert_eq!(mills(bad), None, "{bad}");
-        }
-    }
-
-    #[test]
-    fn dates_have_one_spelling() {
-        assert_eq!(date("2012-02-29"), Some(20120229));
-        for bad in
-            ["2011-02-29", "20110521", "2011-5-21", "2011-05-211", "201-105-21", "1999-12-31", "2011/05/21"]
-        {
-            assert_eq!(date(bad), None, "{bad}");
-        }
-    }
 
     #[test]
     fn errors_say_where_and_what() {

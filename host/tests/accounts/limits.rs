@@ -1,6 +1,7 @@
 //! Values just inside and just outside the limits, and the readings of open points.
 
-use usm::accounts::{in_group, leg, placed};
+use usm::accounts::{fullest, in_group, leg, placed};
+use usm::block::LONGEST_FILE;
 use usm::both::BOTH;
 use usm::{leg_table, Accepted, Leg, Refusal, Sheet, Side, Table};
 
@@ -74,17 +75,9 @@ fn empty_tables_are_a_sheet_but_no_file() {
 
 #[test]
 fn a_full_sheet_fills_39_blocks() {
-    // 32 groups of 8 legs: 256 records, 256 records, 32 claims.
-    let verticals = (1..=32).flat_map(|group| {
-        (1..=8).map(move |strike| {
-            let side = if strike % 2 == 0 { Side::Long } else { Side::Short };
-            Leg { group, side, strike, ..leg("L50c") }
-        })
-    });
-    // Each short lies one mill below its long: at the top strike four pairs lose a mill a unit.
-    let sheet = placed(&verticals.collect::<Vec<Leg>>(), &[400; 32]);
+    let sheet = fullest();
     assert_line(&sheet, "ACCEPT 32 12800");
-    assert_eq!(sheet.to_file().expect("a file").len(), 39 * 512);
+    assert_eq!(sheet.to_file().expect("a file").len(), LONGEST_FILE);
 }
 
 #[test]

@@ -37,7 +37,7 @@ fn number_from(variable: &str) -> Option<u64> {
     Some(number)
 }
 
-/// Tries a family's share of all cases, and shows that every wanted answer came up.
+/// Tries a family's share of all cases, at least one, and shows that every wanted answer came up.
 pub fn run(
     family: &'static str,
     percent: u64,
@@ -47,16 +47,17 @@ pub fn run(
     let seed = number_from("USM_SEED").unwrap_or(SEED);
     let cases = number_from("USM_CASES").unwrap_or(CASES) * percent / 100;
     let only = number_from("USM_ONLY");
-    let indices = only.map_or(0..cases, |index| index..index + 1);
-    let tried = indices.end - indices.start;
+    let indices = only.map_or(0..cases, |index| index..index.saturating_add(1));
     // Each family has random numbers of its own.
     let family_seed =
         family.bytes().fold(seed, |seed, byte| Random::from_seed(seed ^ u64::from(byte)).next());
-    let mut tally = Tally::default();
+    let (mut tally, mut tried) = (Tally::default(), 0);
     for index in indices {
         let mut random = Random::from_seed(family_seed.wrapping_add(index));
         one(&Case { family, seed, index }, &mut random, &mut tally);
+        tried += 1;
     }
+    assert!(tried > 0, "{family}: no case was tried; its share of USM_CASES is {percent} in a hundred");
     println!("{family}: {tried} cases; answers by refusal number, 0 first: {:?}", tally.0);
     // A small run cannot meet every rare answer.
     if cases >= CASES * percent / 100 && only.is_none() {

@@ -4,9 +4,19 @@
 use std::fmt::{Debug, Display};
 
 use usm::ffi::{self, Answer, LINE_BYTES};
+use usm::lent::Lent;
 use usm::{model, Refusal, Table, Tables, RECORD_BYTES};
 
-use crate::lent::{answer_of, Lent};
+/// What no answer ever holds.
+const UNWRITTEN: u64 = 0xFEED_FACE_CAFE_BEEF;
+
+/// The four numbers that a call makes its answer, if the guards around them stayed.
+fn answer_of(call: impl FnOnce(&mut Answer)) -> Option<Answer> {
+    let mut numbers = [UNWRITTEN; 6];
+    call((&mut numbers[1..5]).try_into().expect("four numbers"));
+    let [before, answer @ .., behind] = numbers;
+    (before == UNWRITTEN && behind == UNWRITTEN).then_some(answer)
+}
 
 /// The four numbers a result stands for.
 fn numbers<T: Copy>(result: &Result<T, Refusal>, of_success: impl Fn(T) -> [u64; 3]) -> Answer {

@@ -1,11 +1,9 @@
 //! Sheet files, and damage to them: by the mail, by a tool, or by someone who mends the checks.
 
-use usm::block::{renumber, seal, BLOCK_BYTES, CHECKS_AT, RECORDS_AT};
+use usm::block::{renumber, seal, BLOCK_BYTES, CHECKS_AT, MARK, RECORDS_AT, RECORDS_IN_BLOCK};
 use usm::{Tables, RECORD_BYTES};
 
 use crate::random::Random;
-
-const RECORDS_IN_BLOCK: usize = 15;
 
 /// The file of these tables. The records may be out of range, which no writer would let
 /// pass; that is why this does not call one.
@@ -14,7 +12,7 @@ pub fn of(tables: &Tables) -> Vec<u8> {
     for (kind, table) in tables.in_order() {
         for records in table.chunks(RECORDS_IN_BLOCK * RECORD_BYTES) {
             let mut block = [0; BLOCK_BYTES];
-            block[..4].copy_from_slice(b"USM1");
+            block[..4].copy_from_slice(&MARK);
             block[4] = kind as u8;
             block[5] = records.chunks(RECORD_BYTES).len() as u8;
             block[RECORDS_AT..RECORDS_AT + records.len()].copy_from_slice(records);

@@ -7,15 +7,14 @@
 mod cases;
 mod compare;
 mod faults;
-mod fields;
 mod files;
 mod laws;
-mod lent;
 mod random;
 mod sheets;
 mod shortness;
 mod spreads;
 mod tries;
+mod values;
 mod worlds;
 mod wrapper;
 

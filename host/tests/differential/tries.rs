@@ -2,10 +2,10 @@
 
 use std::collections::BTreeSet;
 
+use usm::fields::{get, records, GROUP, STRIKE};
 use usm::Tables;
 
 use crate::cases::{Case, Tally};
-use crate::fields::{get, records, GROUP, STRIKE};
 use crate::random::Random;
 use crate::{compare, files, wrapper};
 

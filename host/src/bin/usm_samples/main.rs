@@ -1,8 +1,10 @@
 //! Writes the samples: small sheet files named after what they show, each with the text it
 //! is made from where text can make it.
 
+mod accepted;
 mod changes;
 mod list;
+mod refused;
 
 use std::path::Path;
 use std::process::ExitCode;

@@ -1,54 +1,62 @@
+use Prim.Native.Nat.{_≤_, _-_, _+_, _/_}
+use mathlib.Core.Path.{_≡_, refl, sym, _∙_}
 use native.Mathlib.Omega.{arith}
-use borrow.Author.Needs.{needs}
-use Rattle.sheets.proofs.SearchLaws.{search-holds, search-good, search-bad, search-over}
-use Rattle.sheets.specs.Lines.{evenAt}
-use Rattle.records.specs.Tables.{legsOf, legsFrom}
-use Rattle.records.specs.Order.{firstOf, askEach}
-use borrow.Author.Tests.{eq-eqb, ne-eqb}
 use denote.Ref.{now}
 use lib.ListN.{length}
-use mathlib.Core.Path.{_≡_, refl, sym, _∙_}
-use Prim.Native.Nat.{_≤_, _-_, _/_}
+use borrow.Author.Needs.{needs}
+use borrow.Author.Tests.{eq-eqb, ne-eqb}
+use mathlib.Core.List.{_∷_}
+use Rattle.records.specs.Legs.{legOf}
+use Rattle.records.specs.Order.{firstOf, askEach}
+use Rattle.records.specs.Tables.{tableNumber, legsOf}
+use Rattle.records.proofs.ChunkLaws.{rowsFrom, rows-next, rows-none}
+use Rattle.records.proofs.OrderLaws.{search-good, search-bad, search-over}
+use Rattle.records.proofs.TableLaws.{legs-all}
+use Rattle.sheets.specs.Lines.{evenAt}
 use Rattle.sheets.proofs.lines.first_uneven.Statement.{statement}
 use Rattle.sheets.proofs.lines.first_uneven.Tie as tie
 
 abbrev Inv-loop : tie.InvT-loop
-Inv-loop holdings placement table number n i₀ i =
+Inv-loop holdings placement table kind n i₀ i =
     (n ≡ length table / 32) × (i ≤ n)
-    × (firstOf (askEach (evenAt (legsOf holdings) (legsOf placement)) 14 number 0 (legsOf table))
-    ≡ firstOf (askEach (evenAt (legsOf holdings) (legsOf placement)) 14 number i (legsFrom table i)))
+    × (firstOf (askEach (evenAt (legsOf holdings) (legsOf placement)) 14 (tableNumber kind) 0 (legsOf table))
+    ≡ firstOf (askEach (evenAt (legsOf holdings) (legsOf placement)) 14 (tableNumber kind) i (rowsFrom legOf table i)))
 
 abbrev μ-loop : tie.MeasureT-loop
-μ-loop holdings placement table number n i₀ i = n - i
+μ-loop holdings placement table kind n i₀ i = n - i
 
 loop-holds : tie.Need-loop-holds Inv-loop μ-loop
-loop-holds c = let a = c .before .before .before .args in (refl, omega arith, search-holds (evenAt (legsOf (now (a .holdings))) (legsOf (now (a .placement)))) 14 (a .number) (now (a .table)) 0)
+loop-holds c = (refl, omega arith, rw (legs-all (now (c .before .before .before .args .table))))
+
+next : (t : tie.After-leg-at Inv-loop μ-loop)
+    → (let l = t .before .before in
+    let xs = now (l .before .before .before .before .args .table) in
+    rowsFrom legOf xs (l .loop .i) ≡ t .leg-at .result ∷ rowsFrom legOf xs (l .loop .i + 1))
+next t =
+    let l = t .before .before in
+    rows-next legOf (now (l .before .before .before .before .args .table)) (l .loop .i) _ (omega arith) (t .leg-at .ensures)
 
 loop-again : tie.Need-loop-again Inv-loop μ-loop
 unfolding evenAt
 loop-again c =
-    let t = c .before .before .before .before .before .before in
-    let a = t .before .before .before .before .args in
-    let l = c .before .before .before .leg-of .result in (
-      refl,
-      omega arith,
-      search-good (evenAt (legsOf (now (a .holdings))) (legsOf (now (a .placement)))) 14 (a .number) (now (a .table)) (t .loop .i) (t .loop .inv .2) l (c .before .before .before .leg-of .ensures) (omega arith)
-          (eq-eqb _ _ (sym (c .before .before .contracts-of .ensures) ∙ c .if1 .taken ∙ c .before .contracts-of2 .ensures)),
-    )
+    let p = c .before in
+    let t = p .before .before in
+    let even = sym (p .before .contracts-of .ensures) ∙ c .if1 .taken ∙ p .contracts-of2 .ensures in
+    (refl, omega arith, search-good _ _ _ _ _ _ (t .before .before .loop .inv .2) _ _ (next t) (eq-eqb _ _ even))
 
 returns : tie.Need-returns Inv-loop μ-loop
 unfolding evenAt
 returns c =
-    let t = c .before .before .before .before .before .before in
-    let a = t .before .before .before .before .args in
-    let l = c .before .before .before .leg-of .result in
-    search-bad (evenAt (legsOf (now (a .holdings))) (legsOf (now (a .placement)))) 14 (a .number) (now (a .table)) (t .loop .i) (t .loop .inv .2) l (c .before .before .before .leg-of .ensures) (omega arith)
-    (ne-eqb _ _ (λ e. c .if1 .left (c .before .before .contracts-of .ensures ∙ e ∙ sym (c .before .contracts-of2 .ensures))))
+    let p = c .before .before in
+    let t = p .before .before in
+    rw (c .table-number .ensures)
+    (search-bad _ _ _ _ _ _ (t .before .before .loop .inv .2) _ _ (next t)
+    (ne-eqb _ _ (λ e. c .before .if1 .left (p .before .contracts-of .ensures ∙ e ∙ sym (p .contracts-of2 .ensures)))))
 
 returns-2 : tie.Need-returns-2 Inv-loop μ-loop
 returns-2 c =
-    let a = c .before .before .before .before .before .args in
-    search-over (evenAt (legsOf (now (a .holdings))) (legsOf (now (a .placement)))) 14 (a .number) (now (a .table)) (c .before .loop .i) (c .before .loop .inv .2) (omega arith)
+    let l = c .before in
+    search-over _ _ _ _ _ _ (l .loop .inv .2) (rows-none legOf (now (l .before .before .before .before .args .table)) (l .loop .i) (omega arith))
 
 pub first-uneven-spec : {M : Type 1} → statement M
 first-uneven-spec =
@@ -57,16 +65,12 @@ first-uneven-spec =
     Inv-loop
     μ-loop
     loop-holds
-    (λ c. omega arith)
-    (λ c. omega arith)
-    (λ c. omega arith)
-    (λ c. omega arith)
-    (λ c. omega arith)
     (λ c κs. search needs)
     (λ c κs. search needs)
     (λ c κs. search needs)
     (λ c. omega arith)
     (λ c. omega arith)
     loop-again
+    (λ c κs. search needs)
     returns
     returns-2)

@@ -1,45 +1,54 @@
+use Prim.Native.Nat.{_≤_, _-_, _+_, _/_}
+use mathlib.Core.Path.{_≡_, refl, ap}
 use native.Mathlib.Omega.{arith}
-use borrow.Author.Needs.{needs}
-use Rattle.sheets.proofs.SearchLaws.{search-holds, search-good, search-bad, search-over}
-use Rattle.sheets.specs.Sheets.{askPlaced}
-use Rattle.records.specs.Tables.{legsOf, legsFrom}
-use Rattle.records.specs.Order.{firstOf, askEach}
-use Rattle.records.specs.Legs.{isShort}
-use lib.Dec.{eqb}
-use mathlib.Core.Bool.{not, _&&_}
-use mathlib.Core.Path.{ap}
 use denote.Ref.{now}
 use lib.ListN.{length}
-use mathlib.Core.Path.{_≡_, refl}
-use Prim.Native.Nat.{_≤_, _-_, _/_}
+use borrow.Author.Needs.{needs}
+use mathlib.Core.Bool.{not}
+use mathlib.Core.List.{_∷_}
+use Rattle.records.specs.Legs.{legOf}
+use Rattle.records.specs.Order.{firstOf, askEach}
+use Rattle.records.specs.Tables.{legsOf}
+use Rattle.records.proofs.ChunkLaws.{rowsFrom, rows-next, rows-none}
+use Rattle.records.proofs.OrderLaws.{search-good, search-bad, search-over}
+use Rattle.records.proofs.TableLaws.{legs-all}
+use Rattle.sheets.specs.Sheets.{shortPlaced, askPlaced}
 use Rattle.sheets.proofs.lines.placed_fault.Statement.{statement}
 use Rattle.sheets.proofs.lines.placed_fault.Tie as tie
 
 abbrev Inv-loop : tie.InvT-loop
-Inv-loop placement n i₀ i = (n ≡ length placement / 32) × (i ≤ n) × (firstOf (askPlaced (legsOf placement)) ≡ firstOf (askEach (λ l. not (isShort l && eqb (l .group) 0)) 15 2 i (legsFrom placement i)))
+Inv-loop placement n i₀ i =
+    (n ≡ length placement / 32) × (i ≤ n)
+    × (firstOf (askPlaced (legsOf placement)) ≡ firstOf (askEach shortPlaced 15 2 i (rowsFrom legOf placement i)))
 
 abbrev μ-loop : tie.MeasureT-loop
 μ-loop placement n i₀ i = n - i
 
 loop-holds : tie.Need-loop-holds Inv-loop μ-loop
-loop-holds c = (refl, omega arith, search-holds (λ l. not (isShort l && eqb (l .group) 0)) 15 2 (now (c .before .args .placement)) 0)
+loop-holds c = (refl, omega arith, rw (legs-all (now (c .before .args .placement))))
+
+next : (t : tie.After-leg-at Inv-loop μ-loop)
+    → (let l = t .before .before in
+    let xs = now (l .before .before .args .placement) in
+    rowsFrom legOf xs (l .loop .i) ≡ t .leg-at .result ∷ rowsFrom legOf xs (l .loop .i + 1))
+next t =
+    let l = t .before .before in
+    rows-next legOf (now (l .before .before .args .placement)) (l .loop .i) _ (omega arith) (t .leg-at .ensures)
 
 returns : tie.Need-returns Inv-loop μ-loop
 returns c =
-    let t = c .before .before .before .before .before .before in
-    let a = t .before .before .args in
-    search-bad (λ l. not (isShort l && eqb (l .group) 0)) 15 2 (now (a .placement)) (t .loop .i) (t .loop .inv .2) (c .before .before .before .leg-of .result) (c .before .before .before .leg-of .ensures) (omega arith) (ap not (c .if1 .taken))
+    let t = c .before .before .before in
+    search-bad _ _ _ _ _ _ (t .before .before .loop .inv .2) _ _ (next t) (ap not (c .if1 .taken))
 
 loop-again : tie.Need-loop-again Inv-loop μ-loop
 loop-again c =
-    let t = c .before .before .before .before .before .before in
-    let a = t .before .before .args in
-    (refl, omega arith, search-good (λ l. not (isShort l && eqb (l .group) 0)) 15 2 (now (a .placement)) (t .loop .i) (t .loop .inv .2) (c .before .before .before .leg-of .result) (c .before .before .before .leg-of .ensures) (omega arith) (ap not (c .if1 .left)))
+    let t = c .before .before .before in
+    (refl, omega arith, search-good _ _ _ _ _ _ (t .before .before .loop .inv .2) _ _ (next t) (ap not (c .if1 .left)))
 
 returns-2 : tie.Need-returns-2 Inv-loop μ-loop
 returns-2 c =
-    let a = c .before .before .before .args in
-    search-over (λ l. not (isShort l && eqb (l .group) 0)) 15 2 (now (a .placement)) (c .before .loop .i) (c .before .loop .inv .2) (omega arith)
+    let l = c .before in
+    search-over _ _ _ _ _ _ (l .loop .inv .2) (rows-none legOf (now (l .before .before .args .placement)) (l .loop .i) (omega arith))
 
 pub placed-fault-spec : {M : Type 1} → statement M
 placed-fault-spec =
@@ -48,11 +57,6 @@ placed-fault-spec =
     Inv-loop
     μ-loop
     loop-holds
-    (λ c. omega arith)
-    (λ c. omega arith)
-    (λ c. omega arith)
-    (λ c. omega arith)
-    (λ c. omega arith)
     (λ c κs. search needs)
     returns
     (λ c. omega arith)

@@ -14,7 +14,11 @@ unfolding sameLine
 returns-2 c = simp (ne-eqb _ _ (c .if2 .taken), and-false)
 
 returns-3 : tie.Need-returns-3
-returns-3 c = let s = c .before .before .before .before .before .before .before .before .before .before .before .before .before .before .before .before in line-rest (s .args .a) (s .args .b) (c .before .before .before .before .before .before .before .before .before .before .before .before .before .if1 .left) (c .before .before .before .before .before .before .before .before .before .before .if2 .left)
+returns-3 c =
+    let expiry = c .before .before .before .before .before .before .before .before .before .before in
+    let strike = expiry .before .before .before in
+    let s = strike .before .before .before in
+    line-rest (s .args .a) (s .args .b) (strike .if1 .left) (expiry .if2 .left)
 
 pub same-line-spec : {M : Type 1} → statement M
 same-line-spec = tie.close (tie.spec returns returns-2 returns-3)

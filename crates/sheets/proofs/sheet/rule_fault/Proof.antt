@@ -12,11 +12,16 @@ returns c = rw (first-append, sym (c .before .before .before .numbered-fault .en
 
 returns-2 : tie.Need-returns-2
 unfolding ruleChecks
-returns-2 c = rw (first-append, sym (c .before .before .before .before .before .before .numbered-fault .ensures) ∙ c .before .before .before .before .enum-told .given .1, first-append, length-claims, sym (c .before .before .before .named-fault .ensures) ∙ c .before .refusal2 .given .1)
+returns-2 c =
+    let f = c .before .before .before in
+    rw (first-append, sym (f .before .before .before .numbered-fault .ensures) ∙ f .before .enum-told .given .1, first-append, length-claims, sym (f .named-fault .ensures) ∙ c .before .refusal2 .given .1)
 
 returns-3 : tie.Need-returns-3
 unfolding ruleChecks
-returns-3 c = rw (first-append, sym (c .before .before .before .before .before .before .numbered-fault .ensures) ∙ c .before .before .before .before .enum-told .given .1, first-append, length-claims, sym (c .before .before .before .named-fault .ensures) ∙ c .before .enum-told2 .given .1) (c .groups-fault .ensures)
+returns-3 c =
+    let f = c .before .before .before in
+    rw (first-append, sym (f .before .before .before .numbered-fault .ensures) ∙ f .before .enum-told .given .1, first-append, length-claims, sym (f .named-fault .ensures) ∙ c .before .enum-told2 .given .1)
+    (c .spreads-fault .ensures)
 
 pub rule-fault-spec : {M : Type 1} → statement M
 rule-fault-spec =

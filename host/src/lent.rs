@@ -1,6 +1,4 @@
-//! Lent buffers that notice every write: guards before and behind, all in a pattern.
-
-use usm::ffi::Answer;
+//! Lent buffers that notice every write, for the tests: guards before and behind, all in a pattern.
 
 const GUARD: usize = 40;
 
@@ -31,15 +29,4 @@ impl<T: Copy + From<u8> + PartialEq> Lent<T> {
         let stayed = |index: usize| self.entries[index] == pattern(index);
         (0..GUARD).all(stayed) && (GUARD + output..self.entries.len()).all(stayed)
     }
-}
-
-/// What no answer ever holds.
-const UNWRITTEN: u64 = 0xFEED_FACE_CAFE_BEEF;
-
-/// The four numbers that a call makes its answer, if the guards around them stayed.
-pub fn answer_of(call: impl FnOnce(&mut Answer)) -> Option<Answer> {
-    let mut numbers = [UNWRITTEN; 6];
-    call((&mut numbers[1..5]).try_into().expect("four numbers"));
-    let [before, answer @ .., behind] = numbers;
-    (before == UNWRITTEN && behind == UNWRITTEN).then_some(answer)
 }

@@ -1,0 +1,66 @@
+//! Samples that are accepted.
+
+use usm::accounts::{in_group, leg, placed, times};
+use usm::{Leg, Sheet};
+
+use crate::list::{iron_condor, sample, Sample};
+
+/// One group each, and accepted.
+pub fn spreads() -> Vec<Sample> {
+    vec![
+        sample(
+            "iron-condor-in-one-group",
+            "The same legs as one spread: only one half can lose, so it needs less.",
+            placed(&iron_condor(1), &[1_000_000]),
+        ),
+        sample(
+            "butterfly",
+            "A long butterfly never loses at its strikes: no margin.",
+            placed(&[leg("L50c"), times(2, "S60c"), leg("L70c")], &[0]),
+        ),
+        sample(
+            "box",
+            "A long box gains at every price; its margin is 0, not less.",
+            placed(&[leg("L50c"), leg("S60c"), leg("L60p"), leg("S50p")], &[0]),
+        ),
+        sample(
+            "calendar",
+            "A short covered by a long of the same strike that expires later.",
+            placed(&[leg("S50c"), Leg { expiry: 20110618, ..leg("L50c") }], &[0]),
+        ),
+        sample(
+            "units-balance-contracts-do-not",
+            "Ten contracts of unit 10 against one of unit 100: the units are equal.",
+            placed(&[Leg { unit_size: 10, contracts: 10, ..leg("L60c") }, leg("S50c")], &[1_000_000]),
+        ),
+    ]
+}
+
+/// About the placement as a whole, and accepted.
+pub fn sheets() -> Vec<Sample> {
+    vec![
+        sample(
+            "iron-condor-in-two-groups",
+            "An iron condor placed as two verticals: each half needs its own margin.",
+            placed(&iron_condor(2), &[1_000_000, 500_000]),
+        ),
+        sample(
+            "split-lines",
+            "A line held in one record and placed in two groups, another held in two records.",
+            split_lines(),
+        ),
+        sample(
+            "lone-unplaced-long",
+            "A long that no group takes is free: its value is never below zero.",
+            placed(&[in_group(0, leg("L50p"))], &[]),
+        ),
+    ]
+}
+
+/// Holdings and placement with the same contracts in every line and side, cut differently.
+fn split_lines() -> Sheet {
+    let second = [times(2, "S50c"), times(2, "L60c")].map(|leg| in_group(2, leg));
+    let holdings = [times(5, "L60c"), times(1, "S50c"), times(4, "S50c")].map(|leg| in_group(0, leg));
+    let placement = [times(3, "L60c"), times(3, "S50c"), second[0], second[1]];
+    Sheet { holdings: holdings.to_vec(), ..placed(&placement, &[3_000_000, 2_000_000]) }
+}

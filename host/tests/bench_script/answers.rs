@@ -1,0 +1,93 @@
+//! The calls that the script's commands make, and what is printed of each answer.
+
+use usm::both::Calls;
+use usm::lent::Lent;
+use usm::{Refusal, Table, RECORD_BYTES};
+
+use crate::memory::Memory;
+
+/// What a success says, or the refusal.
+fn told<T>(answer: Result<T, Refusal>, success: impl FnOnce(T) -> String) -> String {
+    match answer {
+        Ok(answer) => success(answer),
+        Err(refusal) => refusal.line().trim_end().to_string(),
+    }
+}
+
+/// The word for whether what lies past the output of a call stayed as it was.
+fn kept(stayed: bool) -> &'static str {
+    if stayed {
+        "kept"
+    } else {
+        "OVERWRITTEN"
+    }
+}
+
+pub fn check(calls: &Calls, which: Table, table: &[u8]) -> String {
+    told((calls.check_table)(which, table), |records| records.to_string())
+}
+
+pub fn margin(calls: &Calls, placement: &[u8], g: u64) -> String {
+    told((calls.margin)(placement, g), |mills| mills.to_string())
+}
+
+pub fn margins(calls: &Calls, placement: &[u8], n: u64, room: usize) -> String {
+    let mut out: Lent<i64> = Lent::of_length(room);
+    let answer = (calls.margins)(placement, n, out.slice());
+    let kept = kept(out.stayed_past(answer.unwrap_or(0)));
+    let said = told(answer, |count| {
+        let list: String = out.slice()[..count].iter().map(|mills| format!(" {mills}")).collect();
+        format!("{count}:{list}")
+    });
+    format!("{said} {kept}")
+}
+
+pub fn worksheet(calls: &Calls, placement: &[u8], g: u64, rooms: [usize; 2]) -> String {
+    let mut strikes: Lent<u32> = Lent::of_length(rooms[0]);
+    let mut nets: Lent<i64> = Lent::of_length(rooms[1]);
+    let answer = (calls.worksheet)(placement, g, strikes.slice(), nets.slice());
+    let output = answer.unwrap_or(0);
+    let kept = kept(strikes.stayed_past(output) && nets.stayed_past(output));
+    let said = told(answer, |count| {
+        let rows = strikes.slice()[..count].iter().zip(&nets.slice()[..count]);
+        let list: String = rows.map(|(strike, net)| format!(" {strike} net {net},")).collect();
+        format!("{count}:{list}")
+    });
+    format!("{said} {kept}")
+}
+
+pub fn sheet(calls: &Calls, memory: &Memory) -> String {
+    let verdict = (calls.check_sheet)(&memory.holdings, &memory.placement, &memory.claims);
+    told(verdict, |accepted| accepted.line().trim_end().to_string())
+}
+
+pub fn file(calls: &Calls, memory: &Memory) -> String {
+    let verdict = told((calls.check_file)(&memory.file), |accepted| accepted.line().trim_end().to_string());
+    assert_eq!((calls.file_line)(&memory.file), format!("{verdict}\n"), "{}: the line", calls.name);
+    verdict
+}
+
+/// What is written becomes the file; after a refusal there is none.
+pub fn write(calls: &Calls, memory: &mut Memory, room: usize) -> String {
+    let mut out: Lent<u8> = Lent::of_length(room);
+    let answer = (calls.write_file)(&memory.holdings, &memory.placement, &memory.claims, out.slice());
+    let length = answer.unwrap_or(0);
+    memory.file = out.slice()[..length].to_vec();
+    format!("{} {}", told(answer, |length| length.to_string()), kept(out.stayed_past(length)))
+}
+
+/// Tables of so many bytes are lent, and compared with those of the memory.
+pub fn read(calls: &Calls, memory: &Memory, rooms: [usize; 3]) -> String {
+    let [mut h, mut p, mut c] = rooms.map(Lent::<u8>::of_length);
+    let answer = (calls.read_file)(&memory.file, h.slice(), p.slice(), c.slice());
+    let counts = answer.map_or([0; 3], |counts| [counts.holdings, counts.placement, counts.claims]);
+    let [held, placed, claimed] = counts.map(|records| records * RECORD_BYTES);
+    let kept = kept(h.stayed_past(held) && p.stayed_past(placed) && c.stayed_past(claimed));
+    let said = told(answer, |_| {
+        let read = [&h.slice()[..held], &p.slice()[..placed], &c.slice()[..claimed]];
+        let same = read == [&memory.holdings[..], &memory.placement, &memory.claims];
+        let [holdings, placement, claims] = counts;
+        format!("{holdings} {placement} {claims} {}", if same { "same" } else { "DIFFERENT" })
+    });
+    format!("{said} {kept}")
+}

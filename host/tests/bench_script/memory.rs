@@ -1,0 +1,94 @@
+//! What the script's commands change: three tables and a file.
+
+use usm::block::{seal, BLOCK_BYTES};
+use usm::fields::*;
+use usm::{Table, RECORD_BYTES};
+
+/// The fields of a leg and of a claim, in the order in which the script gives them.
+const LEG: [Field; 10] = [GROUP, SIDE, TYPE, STYLE, MARKET, UNIT_SIZE, UNDERLYING, STRIKE, EXPIRY, CONTRACTS];
+const CLAIM: [Field; 2] = [GROUP, CLAIM_MARGIN];
+
+#[derive(Default)]
+pub struct Memory {
+    pub holdings: Vec<u8>,
+    pub placement: Vec<u8>,
+    pub claims: Vec<u8>,
+    pub file: Vec<u8>,
+}
+
+/// The table that a letter names.
+pub fn table_named(letter: &str) -> Result<Table, String> {
+    match letter {
+        "h" => Ok(Table::Holdings),
+        "p" => Ok(Table::Placement),
+        "c" => Ok(Table::Claims),
+        _ => Err(format!("`{letter}` is none of h, p and c")),
+    }
+}
+
+impl Memory {
+    pub fn table(&mut self, which: Table) -> &mut Vec<u8> {
+        match which {
+            Table::Holdings => &mut self.holdings,
+            Table::Placement => &mut self.placement,
+            Table::Claims => &mut self.claims,
+        }
+    }
+
+    /// A table, or the file.
+    fn bytes(&mut self, letter: &str) -> Result<&mut Vec<u8>, String> {
+        match (letter, table_named(letter)) {
+            ("f", _) => Ok(&mut self.file),
+            (_, Ok(which)) => Ok(self.table(which)),
+            _ => Err(format!("`{letter}` is none of h, p, c and f")),
+        }
+    }
+
+    pub fn byte(&mut self, letter: &str, at: usize) -> Result<&mut u8, String> {
+        self.bytes(letter)?.get_mut(at).ok_or(format!("there is no byte {at}"))
+    }
+
+    /// Sets a length; what is new is zero.
+    pub fn cut(&mut self, letter: &str, length: usize) -> Result<(), String> {
+        self.bytes(letter)?.resize(length, 0);
+        Ok(())
+    }
+
+    /// Appends a record of these numbers.
+    pub fn append(&mut self, which: Table, numbers: &[u64]) -> Result<(), String> {
+        let fields = if which == Table::Claims { &CLAIM[..] } else { &LEG[..] };
+        if numbers.len() != fields.len() {
+            return Err(format!("a record of {} numbers, not of {}", fields.len(), numbers.len()));
+        }
+        let mut record = [0; RECORD_BYTES];
+        for (&field, &number) in fields.iter().zip(numbers) {
+            put(&mut record, 0, field, number);
+            if get(&record, 0, field) != number {
+                return Err(format!("{number} does not fit in {} bytes", field.1));
+            }
+        }
+        self.table(which).extend_from_slice(&record);
+        Ok(())
+    }
+
+    /// Repeats the last record until there are `count`, each with so much more strike and group
+    /// than the one before.
+    pub fn fill(&mut self, which: Table, count: usize, strike: u64, group: u64) -> Result<(), String> {
+        let table = self.table(which);
+        while records(table) < count {
+            let last = records(table).checked_sub(1).ok_or("there is no record to repeat")?;
+            table.extend_from_within(last * RECORD_BYTES..);
+            for (field, more) in [(STRIKE, strike), (GROUP, group)] {
+                let number = get(table, last, field) + more;
+                put(table, last + 1, field, number);
+            }
+        }
+        Ok(())
+    }
+
+    /// Puts the two checks of a block of the file right.
+    pub fn seal(&mut self, block: usize) -> Result<(), String> {
+        let bytes = self.file.chunks_exact_mut(BLOCK_BYTES).nth(block);
+        bytes.map(seal).ok_or(format!("there is no block {block}"))
+    }
+}
