@@ -1,24 +1,24 @@
 // The commands that change the memory and print nothing.
 ghost use Prim.Native.Nat.{_≤_};
-use crate::memory::add_number;
+use crate::bytes::add_number;
+use crate::bytes::blank;
+use crate::bytes::low;
+use crate::bytes::wide;
 use crate::memory::base;
-use crate::memory::blank;
-use crate::memory::low;
 use crate::memory::repeat;
 use crate::memory::resize;
 use crate::memory::room;
 use crate::memory::set_byte;
 use crate::memory::size;
-use crate::memory::wide;
 use crate::text::byte_at;
-use crate::text::least;
 use crate::text::letter;
 use crate::text::number;
 use crate::text::says;
+use crate::text::smaller;
 
 // The first five numbers of a line, as fields of the leg record at `at`: group, side, type, style,
 // market.
-fn put_terms(memory: &mut [u8], at: usize, line: &[u8])
+fn put_first_fields(memory: &mut [u8], at: usize, line: &[u8])
     requires { ⌜ at ≤ 65536 ⌝ }
 {
     add_number(memory, at, 2, number(line, 1));
@@ -29,7 +29,7 @@ fn put_terms(memory: &mut [u8], at: usize, line: &[u8])
 }
 
 // The last five: unit size, underlying, strike, expiry, contracts.
-fn put_series(memory: &mut [u8], at: usize, line: &[u8])
+fn put_last_fields(memory: &mut [u8], at: usize, line: &[u8])
     requires { ⌜ at ≤ 65536 ⌝ }
 {
     add_number(memory, at + 6, 2, number(line, 6));
@@ -60,14 +60,14 @@ pub(crate) fn append(line: &[u8], memory: &mut [u8], sizes: &mut [usize]) {
         put_claim(memory, at, line);
         return;
     }
-    put_terms(memory, at, line);
-    put_series(memory, at, line);
+    put_first_fields(memory, at, line);
+    put_last_fields(memory, at, line);
 }
 
 // Repeats the last record until there are so many.
 fn fill(line: &[u8], memory: &mut [u8], sizes: &mut [usize]) {
     let name = letter(line, 1);
-    let n = least(number(line, 2), 512);
+    let n = smaller(number(line, 2), 512);
     let strike = number(line, 3);
     let group = number(line, 4);
     let mut i = size(sizes, name) / 32;
@@ -115,7 +115,7 @@ fn block_sums(memory: &[u8], at: usize) -> Checks
 
 // Puts the two checks of a block of the file right.
 fn seal(memory: &mut [u8], block: usize) {
-    let at = base(b'f') + 512 * least(block, 47);
+    let at = base(b'f') + 512 * smaller(block, 47);
     let checks = block_sums(memory, at);
     blank(memory, at + 508, at + 512, 0);
     add_number(memory, at + 508, 2, checks.a);

@@ -1,7 +1,7 @@
 // The calls on files: write, file, read. Each prints its answer.
+use crate::bytes::copy_to;
 use crate::calls::print_verdict;
 use crate::memory::base;
-use crate::memory::copy_to;
 use crate::memory::resize;
 use crate::memory::table;
 use crate::print::print;
@@ -9,9 +9,9 @@ use crate::print::print_kept;
 use crate::print::print_number;
 use crate::print::print_refusal;
 use crate::text::byte_at;
-use crate::text::least;
 use crate::text::number;
 use crate::text::part;
+use crate::text::smaller;
 use blocks::Counts;
 use blocks::Reading;
 use blocks::Writing;
@@ -32,7 +32,7 @@ fn kept(s: &[u8], from: usize) -> bool {
 
 // Writes the three tables into `out`, and what was written into the file of the memory.
 fn print_written(memory: &mut [u8], sizes: &mut [usize], room: usize, out: &mut [u8]) {
-    let end = least(room, out.len());
+    let end = smaller(room, out.len());
     match blocks::write_file(
         table(memory, sizes, b'h'),
         table(memory, sizes, b'p'),
@@ -100,7 +100,7 @@ fn print_tables(memory: &[u8], sizes: &[usize], counts: Counts, h: &[u8], p: &[u
 
 // Whether the bytes past n records stay.
 fn kept_after(s: &[u8], n: usize) -> bool {
-    kept(s, 32 * least(n, 1000))
+    kept(s, 32 * smaller(n, 1000))
 }
 
 fn print_reading(
@@ -111,9 +111,9 @@ fn print_reading(
     p: &mut [u8],
     c: &mut [u8],
 ) {
-    let room_h = least(number(line, 1), h.len());
-    let room_p = least(number(line, 2), p.len());
-    let room_c = least(number(line, 3), c.len());
+    let room_h = smaller(number(line, 1), h.len());
+    let room_p = smaller(number(line, 2), p.len());
+    let room_c = smaller(number(line, 3), c.len());
     match blocks::read_file(
         table(memory, sizes, b'f'),
         &mut h[..room_h],

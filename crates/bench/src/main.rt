@@ -16,9 +16,11 @@
 //   try h|p|c ..            empty a table, append the record and check the table
 //   check T · margin G · margins N ROOM · worksheet G STRIKES NETS · sheet
 //   write ROOM · file · read ROOM ROOM ROOM
+mod bytes;
 mod calls;
 mod edits;
 mod files;
+mod lists;
 mod memory;
 mod print;
 mod text;
@@ -52,11 +54,11 @@ fn ask_tables(line: &[u8], memory: &[u8], sizes: &[usize]) -> bool {
         return true;
     }
     if says(line, b"margins") {
-        calls::margins(table(memory, sizes, b'p'), number(line, 1), number(line, 2));
+        lists::margins(table(memory, sizes, b'p'), number(line, 1), number(line, 2));
         return true;
     }
     if says(line, b"worksheet") {
-        calls::worksheet(
+        lists::worksheet(
             table(memory, sizes, b'p'),
             number(line, 1),
             number(line, 2),

@@ -2,9 +2,12 @@
 // bytes, and their lengths in bytes. A letter names each: h holdings, p placement, c claims, f file.
 // What does not fit is left out: each function is total.
 ghost use Prim.Native.Nat.{_≤_, _<_};
-use crate::text::byte_at;
-use crate::text::least;
+use crate::bytes::add_number;
+use crate::bytes::blank;
+use crate::bytes::copy_record;
+use crate::bytes::put;
 use crate::text::part;
+use crate::text::smaller;
 
 fn slot(name: u8) -> usize
     ensures { λ r. ⌜ r < 4 ⌝ }
@@ -45,7 +48,7 @@ pub(crate) fn size(sizes: &[usize], name: u8) -> usize
 {
     let k = slot(name);
     if k < sizes.len() {
-        return least(sizes[k], room(name));
+        return smaller(sizes[k], room(name));
     }
     0
 }
@@ -63,12 +66,6 @@ pub(crate) fn table<'a>(memory: &'a [u8], sizes: &[usize], name: u8) -> &'a [u8]
     part(memory, at, end)
 }
 
-fn put(memory: &mut [u8], at: usize, byte: u8) {
-    if at < memory.len() {
-        memory[at] = byte;
-    }
-}
-
 // Sets byte `at` of a table or of the file.
 pub(crate) fn set_byte(memory: &mut [u8], name: u8, at: usize, byte: u8) {
     if at < room(name) {
@@ -76,69 +73,11 @@ pub(crate) fn set_byte(memory: &mut [u8], name: u8, at: usize, byte: u8) {
     }
 }
 
-// Sets the bytes from `at` to `end`.
-pub(crate) fn blank(memory: &mut [u8], at: usize, end: usize, byte: u8) {
-    let mut i = at;
-    while i < end {
-        put(memory, i, byte);
-        i += 1;
-    }
-}
-
-// Copies `s` to the bytes from `at` on.
-pub(crate) fn copy_to(memory: &mut [u8], at: usize, s: &[u8])
-    requires { ⌜ at ≤ 65536 ⌝ }
-{
-    let mut i: usize = 0;
-    while i < s.len() {
-        put(memory, at + i, s[i]);
-        i += 1;
-    }
-}
-
-// Copies the 32 bytes before `at` to the 32 bytes from `at` on.
-fn copy_record(memory: &mut [u8], at: usize)
-    requires { ⌜ 32 ≤ at ⌝ }
-    requires { ⌜ at ≤ 65536 ⌝ }
-{
-    let mut i: usize = 0;
-    while i < 32 {
-        let byte = byte_at(memory, at - 32 + i);
-        put(memory, at + i, byte);
-        i += 1;
-    }
-}
-
-pub(crate) fn wide(byte: u8) -> usize
-    ensures { λ r. ⌜ r < 256 ⌝ }
-{
-    byte as usize
-}
-
-// The lowest byte of a number.
-pub(crate) fn low(n: usize) -> u8 {
-    (n % 256) as u8
-}
-
-// Adds to the little-endian number of so many bytes at `at`.
-pub(crate) fn add_number(memory: &mut [u8], at: usize, width: usize, more: usize)
-    requires { ⌜ (at ≤ 131072) × (width ≤ 8) ⌝ }
-{
-    let mut rest = least(more, 10000000000000000000);
-    let mut i: usize = 0;
-    while i < width {
-        rest += wide(byte_at(memory, at + i));
-        put(memory, at + i, low(rest));
-        rest /= 256;
-        i += 1;
-    }
-}
-
 // Makes a table or the file so many bytes long; what is new is zero.
 pub(crate) fn resize(memory: &mut [u8], sizes: &mut [usize], name: u8, n: usize) {
     let at = base(name);
     let old = size(sizes, name);
-    let new = least(n, room(name));
+    let new = smaller(n, room(name));
     blank(memory, at + old, at + new, 0);
     set_size(sizes, name, new);
 }

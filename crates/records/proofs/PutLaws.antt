@@ -2,7 +2,7 @@
 use mathlib.Core.Path.{_≡_, refl, sym, ap, _∙_}
 use mathlib.Core.List.{List, _++_, append-assoc}
 use Prim.Native.Nat.{ℕ, suc, _+_, _≤_, _<_}
-use native.Mathlib.Nat.{add-assoc}
+use native.Mathlib.Nat.{add-assoc, zero-add}
 use native.Mathlib.Numerals.{add-one}
 use native.Mathlib.Omega.{arith}
 use lib.ListN.{length, take, drop, getD, set, length-append, length-take, length-drop}
@@ -63,3 +63,8 @@ module _ {A : Type 0} where
   pub put-front : (d s : List A) → take (length s) (putAt d 0 s) ≡ s
   unfolding putAt
   put-front d s = take-at s (drop (0 + length s) d) (length s) refl
+
+  -- 'what lies past its output in a lent slice stays'
+  pub put-past : (d s : List A) → drop (length s) (putAt d 0 s) ≡ drop (length s) d
+  unfolding putAt
+  put-past d s = drop-at s (drop (0 + length s) d) (length s) refl ∙ simp zero-add

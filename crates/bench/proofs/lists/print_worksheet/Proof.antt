@@ -1,8 +1,8 @@
 use native.Mathlib.Omega.{arith}
 use lib.ListN.{length-take}
 use borrow.Author.Needs.{needs}
-use Rattle.bench.proofs.calls.print_worksheet.Statement.{statement}
-use Rattle.bench.proofs.calls.print_worksheet.Tie as tie
+use Rattle.bench.proofs.lists.print_worksheet.Statement.{statement}
+use Rattle.bench.proofs.lists.print_worksheet.Tie as tie
 
 slice-aggregate-worksheet : tie.Need-slice-aggregate-worksheet
 slice-aggregate-worksheet c = simp length-take (omega arith)

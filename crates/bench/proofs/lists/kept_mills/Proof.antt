@@ -1,16 +1,17 @@
 use Prim.Native.Nat.{_-_}
+use lib.ListN.{length}
 use borrow.Author.Needs.{needs}
-use Rattle.bench.proofs.calls.print_list.Statement.{statement}
-use Rattle.bench.proofs.calls.print_list.Tie as tie
+use Rattle.bench.proofs.lists.kept_mills.Statement.{statement}
+use Rattle.bench.proofs.lists.kept_mills.Tie as tie
 
 abbrev Inv-loop : tie.InvT-loop
-Inv-loop mills n i₀ i = Unit {0}
+Inv-loop mills from i₀ i = Unit {0}
 
 abbrev μ-loop : tie.MeasureT-loop
-μ-loop mills n i₀ i = n - i
+μ-loop mills from i₀ i = length mills - i
 
-pub print-list-spec : {M : Type 1} → statement M
-print-list-spec =
+pub kept-mills-spec : {M : Type 1} → statement M
+kept-mills-spec =
     tie.close
     (tie.spec
     Inv-loop
@@ -18,7 +19,7 @@ print-list-spec =
     (λ c. search needs)
     (λ c. search needs)
     (λ c. search needs)
-    (λ c κs. search needs)
+    (λ c. search needs)
     (λ c. search needs)
     (λ c. search needs)
     (λ c. search needs)

@@ -2,8 +2,8 @@ use Prim.Native.Nat.{_-_, _≤_}
 use mathlib.Core.Path.{_≡_}
 use lib.ListN.{length}
 use borrow.Author.Needs.{needs}
-use Rattle.bench.proofs.memory.add_number.Statement.{statement}
-use Rattle.bench.proofs.memory.add_number.Tie as tie
+use Rattle.bench.proofs.bytes.add_number.Statement.{statement}
+use Rattle.bench.proofs.bytes.add_number.Tie as tie
 
 abbrev Inv-loop : tie.InvT-loop
 Inv-loop memory₀ at width more rest₀ i₀ memory rest i = (i ≤ width) × (width ≤ 8) × (rest ≤ 10000000000000000000) × (length memory ≡ length memory₀)

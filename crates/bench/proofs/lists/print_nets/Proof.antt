@@ -1,7 +1,7 @@
 use Prim.Native.Nat.{_-_}
 use borrow.Author.Needs.{needs}
-use Rattle.bench.proofs.calls.print_nets.Statement.{statement}
-use Rattle.bench.proofs.calls.print_nets.Tie as tie
+use Rattle.bench.proofs.lists.print_nets.Statement.{statement}
+use Rattle.bench.proofs.lists.print_nets.Tie as tie
 
 abbrev Inv-loop : tie.InvT-loop
 Inv-loop strikes nets n i₀ t5 t6 i = Unit {0}

@@ -1,8 +1,8 @@
 use native.Mathlib.Omega.{arith}
 use lib.ListN.{length-take}
 use borrow.Author.Needs.{needs}
-use Rattle.bench.proofs.calls.print_margins.Statement.{statement}
-use Rattle.bench.proofs.calls.print_margins.Tie as tie
+use Rattle.bench.proofs.lists.print_margins.Statement.{statement}
+use Rattle.bench.proofs.lists.print_margins.Tie as tie
 
 slice-aggregate-margins : tie.Need-slice-aggregate-margins
 slice-aggregate-margins c = simp length-take (omega arith)

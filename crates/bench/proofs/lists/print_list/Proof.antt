@@ -1,17 +1,16 @@
 use Prim.Native.Nat.{_-_}
-use lib.ListN.{length}
 use borrow.Author.Needs.{needs}
-use Rattle.bench.proofs.calls.kept_strikes.Statement.{statement}
-use Rattle.bench.proofs.calls.kept_strikes.Tie as tie
+use Rattle.bench.proofs.lists.print_list.Statement.{statement}
+use Rattle.bench.proofs.lists.print_list.Tie as tie
 
 abbrev Inv-loop : tie.InvT-loop
-Inv-loop strikes from i₀ i = Unit {0}
+Inv-loop mills n i₀ i = Unit {0}
 
 abbrev μ-loop : tie.MeasureT-loop
-μ-loop strikes from i₀ i = length strikes - i
+μ-loop mills n i₀ i = n - i
 
-pub kept-strikes-spec : {M : Type 1} → statement M
-kept-strikes-spec =
+pub print-list-spec : {M : Type 1} → statement M
+print-list-spec =
     tie.close
     (tie.spec
     Inv-loop
@@ -19,7 +18,7 @@ kept-strikes-spec =
     (λ c. search needs)
     (λ c. search needs)
     (λ c. search needs)
-    (λ c. search needs)
+    (λ c κs. search needs)
     (λ c. search needs)
     (λ c. search needs)
     (λ c. search needs)

@@ -2,8 +2,8 @@ use Prim.Native.Nat.{_-_}
 use mathlib.Core.Path.{_≡_}
 use lib.ListN.{length}
 use borrow.Author.Needs.{needs}
-use Rattle.bench.proofs.memory.blank.Statement.{statement}
-use Rattle.bench.proofs.memory.blank.Tie as tie
+use Rattle.bench.proofs.bytes.blank.Statement.{statement}
+use Rattle.bench.proofs.bytes.blank.Tie as tie
 
 abbrev Inv-loop : tie.InvT-loop
 Inv-loop memory₀ at end byte i₀ memory i = length memory ≡ length memory₀
