@@ -1,24 +1,27 @@
 -- A file's blocks: those before block i, a kind's records in them, and which size they have.
 use mathlib.Core.Path.{_≡_, refl, sym, ap, _∙_}
-use mathlib.Core.Bool.{true, _&&_, and-eq-true-iff}
-use mathlib.Core.List.{List, [], _∷_, _++_, append-assoc}
+use mathlib.Core.Bool.{true, and-eq-true-iff}
+use mathlib.Core.List.{List, [], _∷_, _++_, append-assoc, append-nil, reverseAux, reverse, flatMap}
 use Prim.Native.Nat.{ℕ, zero, suc, _+_, _-_, _*_, _/_, _%_, _≤_, _<_}
 use native.Mathlib.Numerals.{add-one}
 use native.Mathlib.Omega.{arith}
 use lib.Dec.{eqb, leb}
 use lib.ListN.{length, take, drop, length-append, length-take, length-drop}
 use lib.Seq.{drop-drop}
-use borrow.Author.Tests.{eqb-true, leb-true, eq-eqb}
+use borrow.Author.Tests.{eqb-true, eq-eqb}
 use Rattle.records.specs.Chunks.{chunkAt, chunksFrom}
+use Rattle.records.specs.Dates.{within}
 use Rattle.records.specs.Lists.{All}
-use Rattle.records.specs.Tables.{wholeTable, limitOf, tableNumber}
+use Rattle.records.specs.Order.{Check}
+use Rattle.records.specs.Tables.{wholeTable, limitOf, tableNumber, fieldsChecks}
 use Rattle.records.specs.declared.tables.Kind.{Kind}
-use Rattle.records.proofs.ListLaws.{only-le}
-use Rattle.records.proofs.ChunkLaws.{chunks-all, chunks-step, chunks-none}
+use Rattle.records.proofs.ListLaws.{take-part}
+use Rattle.records.proofs.Measures.{only-le}
+use Rattle.records.proofs.ChunkLaws.{chunks-all, chunks-step, chunks-none, all-chunk}
+use Rattle.records.proofs.TableLaws.{within-true}
 use Rattle.blocks.specs.Block.{kindOf, countOf}
-use Rattle.blocks.specs.File.{wholeFile, blocksOf, countAs, recordsAs, joined}
+use Rattle.blocks.specs.File.{Tables, wholeFile, blocksOf, countAs, recordsAs, joined}
 use Rattle.blocks.specs.Steps.{Sized}
-use Rattle.blocks.proofs.PartLaws.{take-part, all-chunk}
 
 -- so many whole records are a whole table just where they are within its limit
 pub fits-is : (kind : Kind) (n : ℕ) → wholeTable kind (32 * n) ≡ leb n (limitOf kind)
@@ -28,9 +31,13 @@ fits-is kind n =
 
 pub whole-file : (bytes : ℕ) → wholeFile bytes ≡ true → (bytes % 512 ≡ 0) × (1 ≤ bytes / 512) × (bytes / 512 ≤ 39)
 whole-file bytes e =
-    let p = and-eq-true-iff (eqb (bytes % 512) 0) (leb 1 (bytes / 512) && leb (bytes / 512) 39) .0 e in
-    let q = and-eq-true-iff (leb 1 (bytes / 512)) (leb (bytes / 512) 39) .0 (p .1) in
-    (eqb-true (bytes % 512) 0 (p .0), leb-true 1 (bytes / 512) (q .0), leb-true (bytes / 512) 39 (q .1))
+    let p = and-eq-true-iff (eqb (bytes % 512) 0) (within 1 39 (bytes / 512)) .0 e in
+    let w = within-true 1 39 (bytes / 512) (p .1) in
+    (eqb-true (bytes % 512) 0 (p .0), w .0, w .1)
+
+-- refusal 4 of three tables
+abbrev pub recordChecks : Tables → List Check
+recordChecks t = fieldsChecks (t .holdings) (t .placement) (t .claims)
 
 -- ---- block i and those before it
 
@@ -86,12 +93,22 @@ unfoldable pub joinedBack : Kind → List (List ℕ) → List ℕ
 joinedBack kind [] = []
 joinedBack kind (b ∷ before) = joinedBack kind before ++ recordsAs kind b
 
+-- of blocks that are turned around
+joined-onto : (k : Kind) (bs before : List (List ℕ)) → joinedBack k (reverseAux bs before) ≡ joinedBack k before ++ joined k bs
+unfolding joinedBack flatMap
+joined-onto k [] before = sym (append-nil (joinedBack k before))
+joined-onto k (b ∷ bs) before = joined-onto k bs (b ∷ before) ∙ append-assoc (joinedBack k before) _ (joined k bs)
+
+pub joined-back : (k : Kind) (bs : List (List ℕ)) → joinedBack k (reverse bs) ≡ joined k bs
+unfolding joinedBack
+joined-back k bs = joined-onto k bs []
+
 pub joined-step : (kind : Kind) (b : List ℕ) (l ls : List (List ℕ)) → l ≡ b ∷ ls → joined kind l ≡ recordsAs kind b ++ joined kind ls
-unfolding joined
+unfolding flatMap
 joined-step kind b l ls e = rw e
 
 pub joined-none : (kind : Kind) (l : List (List ℕ)) → l ≡ [] → joined kind l ≡ []
-unfolding joined
+unfolding flatMap
 joined-none kind l e = rw e
 
 -- a kind's records in the first i blocks
@@ -104,7 +121,7 @@ joined-next kind f i = rw (earlier-next f i)
 
 -- what is joined is what is joined of the first i blocks, and of the rest
 pub joined-at : (kind : Kind) (f : List ℕ) (i : ℕ) → i ≤ length f / 512 → joined kind (blocksOf f) ≡ joinedTo kind f i ++ joined kind (blocksFrom f i)
-unfolding joinedBack earlier joined
+unfolding joinedBack earlier flatMap
 joined-at kind f zero h = rw (blocks-all f)
 joined-at kind f (suc i) h =
     joined-at kind f i (omega arith)

@@ -1,57 +1,27 @@
--- The promises of read_file and write_file settle the outcome: two outcomes that both meet one are equal.
+-- No two different outcomes meet a promise of this crate: the answer is one definition of the inputs, and so, with it, is
+-- the later content of each lent slice.
 use mathlib.Core.Path.{_≡_, sym, ap, _∙_}
 use mathlib.Core.List.{List}
 use Prim.Native.Nat.{ℕ}
 use lib.ListN.{length}
-use Rattle.records.specs.declared.tables.Kind.the-variants.{Holdings, Placement, Claims}
+use Rattle.records.specs.declared.tables.Kind.{Kind}
+use Rattle.records.proofs.Unique.{one-outcome}
 use Rattle.blocks.specs.File.{Tables}
 use Rattle.blocks.specs.Writer.{writeOf, filled}
 use Rattle.blocks.specs.Reader.{readOf, leaves}
 use Rattle.blocks.specs.declared.reader.Reading.{Reading}
 use Rattle.blocks.specs.declared.writer.Writing.{Writing}
 
--- what a call of read_file answers, and what the three lent tables hold then
-pub record ReadOutcome : Type 0 where
-  pub answer : Reading
-  pub holdings : List ℕ
-  pub placement : List ℕ
-  pub claims : List ℕ
+module _ (file : List ℕ) (h p c : ℕ) (r s : Reading) (x : r ≡ readOf file h p c) (y : s ≡ readOf file h p c) where
+  read-unique : r ≡ s
+  read-unique = one-outcome x y
 
--- the `ensures` of read_file, of a file and three lent tables that held h, p and c
-pub record ReadPromise (file h p c : List ℕ) (o : ReadOutcome) : Type 0 where
-  pub answer : o .answer ≡ readOf file (length h) (length p) (length c)
-  pub holdings : o .holdings ≡ leaves (o .answer) Holdings file h
-  pub placement : o .placement ≡ leaves (o .answer) Placement file p
-  pub claims : o .claims ≡ leaves (o .answer) Claims file c
+  table-unique : (kind : Kind) (lent a b : List ℕ) → a ≡ leaves r kind file lent → b ≡ leaves s kind file lent → a ≡ b
+  table-unique kind lent a b d e = d ∙ ap (λ (w : Reading). leaves w kind file lent) read-unique ∙ sym e
 
-read-same : (r s : Reading) (h i p q c d : List ℕ) → r ≡ s → h ≡ i → p ≡ q → c ≡ d
-    → _≡_ {A = ReadOutcome} (record { answer = r; holdings = h; placement = p; claims = c }) (record { answer = s; holdings = i; placement = q; claims = d })
-read-same r s h i p q c d er eh ep ec = rw (er, eh, ep, ec)
+module _ (t : Tables) (out : List ℕ) (r s : Writing) (x : r ≡ writeOf t (length out)) (y : s ≡ writeOf t (length out)) where
+  write-unique : r ≡ s
+  write-unique = one-outcome x y
 
-pub read-unique : (file h p c : List ℕ) (a b : ReadOutcome) → ReadPromise file h p c a → ReadPromise file h p c b → a ≡ b
-read-unique file h p c a b x y =
-    let e : a .answer ≡ b .answer = x .answer ∙ sym (y .answer) in
-    let eh : a .holdings ≡ b .holdings = x .holdings ∙ ap (λ (r : Reading). leaves r Holdings file h) e ∙ sym (y .holdings) in
-    let ep : a .placement ≡ b .placement = x .placement ∙ ap (λ (r : Reading). leaves r Placement file p) e ∙ sym (y .placement) in
-    let ec : a .claims ≡ b .claims = x .claims ∙ ap (λ (r : Reading). leaves r Claims file c) e ∙ sym (y .claims) in
-    read-same (a .answer) (b .answer) (a .holdings) (b .holdings) (a .placement) (b .placement) (a .claims) (b .claims) e eh ep ec
-
--- what a call of write_file answers, and what the lent buffer holds then
-pub record WriteOutcome : Type 0 where
-  pub answer : Writing
-  pub out : List ℕ
-
--- the `ensures` of write_file, of three tables and a lent buffer that held `out`
-pub record WritePromise (t : Tables) (out : List ℕ) (o : WriteOutcome) : Type 0 where
-  pub answer : o .answer ≡ writeOf t (length out)
-  pub filling : o .out ≡ filled (o .answer) t out
-
-write-same : (r s : Writing) (o u : List ℕ) → r ≡ s → o ≡ u
-    → _≡_ {A = WriteOutcome} (record { answer = r; out = o }) (record { answer = s; out = u })
-write-same r s o u er eo = rw (er, eo)
-
-pub write-unique : (t : Tables) (out : List ℕ) (a b : WriteOutcome) → WritePromise t out a → WritePromise t out b → a ≡ b
-write-unique t out a b x y =
-    let e : a .answer ≡ b .answer = x .answer ∙ sym (y .answer) in
-    let eo : a .out ≡ b .out = x .filling ∙ ap (λ (r : Writing). filled r t out) e ∙ sym (y .filling) in
-    write-same (a .answer) (b .answer) (a .out) (b .out) e eo
+  out-unique : (a b : List ℕ) → a ≡ filled r t out → b ≡ filled s t out → a ≡ b
+  out-unique a b d e = d ∙ ap (λ (w : Writing). filled w t out) write-unique ∙ sym e

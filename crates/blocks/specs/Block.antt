@@ -45,9 +45,9 @@ numberOf b = leAt b 6 2
 abbrev pub blocksSaid : List ℕ → ℕ
 blocksSaid b = leAt b 8 2
 
--- '16-495 the records'
-abbrev pub recordsIn : List ℕ → List ℕ
-recordsIn b = take (32 * countOf b) (drop 16 b)
+-- '16-495 the records': the first so many of them
+abbrev pub recordsIn : ℕ → List ℕ → List ℕ
+recordsIn count b = take (32 * count) (drop 16 b)
 
 -- '508-509 check A; 510-511 check B'
 abbrev pub sumA : List ℕ → ℕ

@@ -1,17 +1,17 @@
 -- '1 to 39 blocks of 512 bytes': a file's blocks in their order, and the file that the writer makes.
-use Prim.Native.Nat.{ℕ, _+_, _*_, _/_, _%_}
+use Prim.Native.Nat.{ℕ, _+_, _/_, _%_}
 use mathlib.Core.Bool.{Bool, _&&_, _||_, not}
-use mathlib.Core.List.{List, [], _∷_, _++_}
+use mathlib.Core.List.{List, [], _∷_, _++_, flatten, flatMap}
 use lib.Dec.{eqb, leb}
-use lib.ListN.{length, take, drop}
+use lib.ListN.{length}
 use Rattle.records.specs.Chunks.{chunks}
 use Rattle.records.specs.Dates.{within}
 use Rattle.records.specs.Lists.{only, sum}
 use Rattle.records.specs.Order.{Check, ask}
-use Rattle.records.specs.Tables.{tableNumber, inLimit, fieldsChecks}
+use Rattle.records.specs.Tables.{tableNumber, inLimit}
 use Rattle.records.specs.declared.tables.Kind.{Kind}
 use Rattle.records.specs.declared.tables.Kind.the-variants.{Holdings, Placement, Claims}
-use Rattle.blocks.specs.Block.{kindOf, countOf, sumsAgree, formed, blockOf}
+use Rattle.blocks.specs.Block.{kindOf, countOf, recordsIn, sumsAgree, formed, blockOf}
 
 -- the bytes of the three tables
 pub record Tables : Type 0 where
@@ -26,10 +26,6 @@ abbrev pub tableOf : Kind → Tables → List ℕ
 tableOf Holdings t = t .holdings
 tableOf Placement t = t .placement
 tableOf Claims t = t .claims
-
--- 'then records by table (4)'
-abbrev pub recordChecks : Tables → List Check
-recordChecks t = fieldsChecks (t .holdings) (t .placement) (t .claims)
 
 -- ---- reading
 
@@ -48,12 +44,11 @@ abbrev pub countAs : Kind → List ℕ → ℕ
 countAs kind b = countedAs kind (kindOf b) (countOf b)
 
 abbrev pub recordsAs : Kind → List ℕ → List ℕ
-recordsAs kind b = take (32 * countAs kind b) (drop 16 b)
+recordsAs kind b = recordsIn (countAs kind b) b
 
 -- a kind's records, joined in file order
-unfoldable pub joined : Kind → List (List ℕ) → List ℕ
-joined kind [] = []
-joined kind (b ∷ bs) = recordsAs kind b ++ joined kind bs
+abbrev pub joined : Kind → List (List ℕ) → List ℕ
+joined kind bs = flatMap (recordsAs kind) bs
 
 unfoldable pub tablesIn : List ℕ → Tables
 tablesIn file =
@@ -121,15 +116,10 @@ blocksFor n t =
     ++ (numbered 2 (blockCount (length (t .holdings))) n (partsOf (t .placement))
     ++ numbered 3 (blockCount (length (t .holdings)) + blockCount (length (t .placement))) n (partsOf (t .claims)))
 
--- one after the other
-unfoldable pub flat : List (List ℕ) → List ℕ
-flat [] = []
-flat (b ∷ bs) = b ++ flat bs
-
 -- the bytes of a kind's blocks
 unfoldable pub blocksOfKind : ℕ → ℕ → ℕ → List ℕ → List ℕ
-blocksOfKind kind number n records = flat (numbered kind number n (partsOf records))
+blocksOfKind kind number n records = flatten (numbered kind number n (partsOf records))
 
 -- the file that the writer makes of three tables
 unfoldable pub fileOf : Tables → List ℕ
-fileOf t = flat (blocksFor (blocksIn t) t)
+fileOf t = flatten (blocksFor (blocksIn t) t)

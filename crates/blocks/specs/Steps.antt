@@ -4,12 +4,11 @@ use mathlib.Core.Path.{_≡_}
 use mathlib.Core.Bool.{Bool, cond, _&&_}
 use mathlib.Core.List.{List, []}
 use lib.ListN.{length}
-use Rattle.records.specs.Lists.{sum}
 use Rattle.records.specs.Order.{firstOf}
 use Rattle.records.specs.Tables.{limitOf}
 use Rattle.records.specs.declared.tables.Kind.the-variants.{Holdings, Placement, Claims}
 use Rattle.blocks.specs.Block.{kindOf, countOf, sumsAgree, formed}
-use Rattle.blocks.specs.File.{prevOf, countedAs, countAs, blocksOf, mayFollow, inLimits, blocksChecks, tablesIn}
+use Rattle.blocks.specs.File.{countedAs, blocksOf, mayFollow, inLimits, blocksChecks, tablesIn}
 use Rattle.blocks.specs.Reader.{reading, countsOf, readChecks}
 use Rattle.blocks.specs.declared.reader.Reading.{Reading}
 use Rattle.blocks.specs.declared.scanner.SoFar.{SoFar}
@@ -18,17 +17,6 @@ use Rattle.blocks.specs.declared.scanner.SoFar.{SoFar}
 
 abbrev pub nothingYet : SoFar
 nothingYet = record { kind = 0; count = 0; holdings = 0; placement = 0; claims = 0 }
-
--- what the scan keeps of the blocks before, the nearest first
-abbrev pub soFar : List (List ℕ) → SoFar
-soFar before =
-    record {
-      kind = kindOf (prevOf before);
-      count = countOf (prevOf before);
-      holdings = sum (countAs Holdings) before;
-      placement = sum (countAs Placement) before;
-      claims = sum (countAs Claims) before;
-    }
 
 -- with one block more
 abbrev pub grown : SoFar → ℕ → ℕ → SoFar

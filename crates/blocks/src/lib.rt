@@ -1,4 +1,4 @@
-// The sheet file: 1 to 39 blocks of 512 bytes, read into three lent tables and written from them.
+// Layer 1: the sheet file, 1 to 39 blocks of 512 bytes, read into three lent tables and written from them.
 // Document 01, 'The file'. No public function has a `requires`.
 mod bytes;
 mod checks;

@@ -1,7 +1,9 @@
 pub mod ListLaws
+pub mod Measures
 pub mod ByteLaws
 pub mod ChunkLaws
 pub mod PutLaws
 pub mod OrderLaws
+pub mod PassLaws
 pub mod TableLaws
 pub mod Unique

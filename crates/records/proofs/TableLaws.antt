@@ -2,7 +2,7 @@
 use Prim.Native.Nat.{ℕ, _/_, _%_, _≤_, _<_}
 use mathlib.Core.Path.{_≡_}
 use mathlib.Core.Bool.{true, _&&_, and-eq-true-iff}
-use mathlib.Core.List.{List, []}
+use mathlib.Core.List.{List}
 use lib.Dec.{eqb, leb}
 use lib.ListN.{length}
 use borrow.Author.Tests.{eqb-true, leb-true}
@@ -21,9 +21,9 @@ use Rattle.records.specs.declared.claims.Claim.{Claim}
 use Rattle.records.specs.declared.refusals.Fault.the-variants.{Nothing}
 use Rattle.records.specs.declared.tables.Kind.{Kind}
 use Rattle.records.specs.declared.tables.Kind.the-variants.{Placement}
-use Rattle.records.proofs.ListLaws.{map-all, all-at}
-use Rattle.records.proofs.ChunkLaws.{length-chunks, getD-chunks, rowsFrom, rows-all, length-rows}
-use Rattle.records.proofs.OrderLaws.{clear, pass-each}
+use Rattle.records.proofs.ListLaws.{map-all}
+use Rattle.records.proofs.ChunkLaws.{all-chunk, rowsFrom, rows-all, length-rows}
+use Rattle.records.proofs.PassLaws.{clear, pass-each}
 
 -- ---- one record
 
@@ -133,7 +133,7 @@ fields-good kind xs e = pass-each (goodRecord kind) 4 (tableNumber kind) 0 (reco
 -- record i of such a table
 pub record-good : (kind : Kind) (xs : List ℕ) (i : ℕ) → firstOf (fieldChecks kind xs) ≡ Nothing → i < length xs / 32 → goodRecord kind (chunkAt 32 xs i) ≡ true
 record-good kind xs i e h =
-    rw (getD-chunks 32 (length xs / 32) i xs h) at (all-at (λ r. goodRecord kind r ≡ true) (recordsOf xs) i [] (fields-good kind xs e) (rw (length-chunks 32 (length xs / 32) xs) h))
+    all-chunk (λ r. goodRecord kind r ≡ true) 32 (length xs / 32) i xs h (fields-good kind xs e)
 
 -- the bounds of every leg of a placement whose fields are in range
 pub placement-ranges : (xs : List ℕ) → firstOf (fieldChecks Placement xs) ≡ Nothing → All (Ranges 32) (legsOf xs)

@@ -11,7 +11,7 @@ use Rattle.records.specs.Chunks.{chunkAt}
 use Rattle.records.specs.Legs.{legOf}
 use Rattle.records.specs.declared.legs.Leg.{Leg}
 use Rattle.records.proofs.ChunkLaws.{rowsFrom, rows-next, rows-none}
-use Rattle.records.proofs.ListLaws.{sum-step, sum-over}
+use Rattle.records.proofs.Measures.{sum-step, sum-over}
 use Rattle.sheets.specs.Lines.{sameLine, sameLineSide, contractsOf}
 
 module _ (x : Leg) where

@@ -13,7 +13,7 @@ use Rattle.records.specs.Tables.{legsOf, claimsOf, fieldChecks}
 use Rattle.records.specs.declared.refusals.Fault.{Fault}
 use Rattle.records.specs.declared.refusals.Fault.the-variants.{Nothing, Is}
 use Rattle.records.specs.declared.tables.Kind.the-variants.{Placement}
-use Rattle.records.proofs.OrderLaws.{unclear}
+use Rattle.records.proofs.PassLaws.{unclear}
 use Rattle.records.proofs.TableLaws.{Ranges, placement-ranges, length-legs, whole}
 use Rattle.spreads.specs.Spreads.{groupOf}
 use Rattle.sheets.specs.Demands.{Covers, Sound, Kept, AcceptedJust, AcceptedCovers, AcceptedLeast, AcceptedLimit, NetsLimit}

@@ -9,7 +9,8 @@ use lib.Dec.{eqb}
 use borrow.Author.Tests.{eqb-true, eq-eqb}
 use Rattle.records.specs.Lists.{only, sum, All}
 use Rattle.records.specs.declared.legs.Leg.{Leg}
-use Rattle.records.proofs.ListLaws.{every, sum-ext}
+use Rattle.records.proofs.ListLaws.{every}
+use Rattle.records.proofs.Measures.{sum-ext}
 use Rattle.spreads.specs.Prices.{intrinsic, value}
 use Rattle.sheets.specs.Lines.{sameLine, sameLineSide, contractsOf}
 use Rattle.sheets.proofs.Held.{level-worth, level-everywhere}

@@ -15,7 +15,8 @@ use Rattle.records.specs.declared.refusals.Refusal.{Refusal}
 use Rattle.records.specs.declared.refusals.Fault.{Fault}
 use Rattle.records.specs.declared.refusals.Fault.the-variants.{Nothing, Is}
 use Rattle.records.specs.declared.tables.Kind.the-variants.{Holdings, Placement, Claims}
-use Rattle.records.proofs.OrderLaws.{orElse, clear, unclear, first-append, first-then, groups-same}
+use Rattle.records.proofs.OrderLaws.{orElse, first-append, first-then, groups-same}
+use Rattle.records.proofs.PassLaws.{clear, unclear}
 use Rattle.records.proofs.PutLaws.{length-putAt}
 use Rattle.records.proofs.TableLaws.{whole, length-claims}
 use Rattle.spreads.specs.Calls.{groupsChecks, listedAnswer, marginsCall, marginsFrom}

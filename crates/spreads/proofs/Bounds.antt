@@ -13,8 +13,9 @@ use Rattle.records.specs.Claims.{mostMills}
 use Rattle.records.specs.Tables.{tableChecks, fieldChecks, legsOf}
 use Rattle.records.specs.declared.legs.Leg.{Leg}
 use Rattle.records.specs.declared.tables.Kind.the-variants.{Placement}
-use Rattle.records.proofs.ListLaws.{only-le, all-map, all-keep, length-keep, sum-bound, most-bound}
-use Rattle.records.proofs.OrderLaws.{clear, unclear}
+use Rattle.records.proofs.ListLaws.{all-map, all-keep, length-keep}
+use Rattle.records.proofs.Measures.{only-le, sum-bound, most-bound}
+use Rattle.records.proofs.PassLaws.{clear, unclear}
 use Rattle.records.proofs.TableLaws.{record-good, good-ranges, Ranges, units-small, placement-ranges, length-legs, whole}
 use Rattle.spreads.specs.Prices.{intrinsic, value, longAt, shortAt, at, lossAt}
 use Rattle.spreads.specs.Strikes.{marginOf}

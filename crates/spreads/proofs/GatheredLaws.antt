@@ -9,7 +9,8 @@ use Rattle.records.specs.Lists.{only, sum, most, least, All}
 use Rattle.records.specs.Legs.{isLong, isShort, isCall, isPut, units, unitsOf, plusUnits}
 use Rattle.records.specs.declared.counts.Units.{Units}
 use Rattle.records.specs.declared.legs.Leg.{Leg}
-use Rattle.records.proofs.ListLaws.{only-le, all-map, sum-bound}
+use Rattle.records.proofs.ListLaws.{all-map}
+use Rattle.records.proofs.Measures.{only-le, sum-bound}
 use Rattle.records.proofs.TableLaws.{Ranges, units-small}
 use Rattle.spreads.specs.Spreads.{groupIn, noneDoubled, unitsIn, latestShort, earliestLong, never, spreadChecks}
 use Rattle.spreads.specs.Gathered.{withFirsts, withUnits, withRight, withExpiry, withLife, withLeg, noFacts, gathered, factChecks}

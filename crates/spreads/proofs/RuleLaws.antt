@@ -12,7 +12,7 @@ use Rattle.records.specs.Order.{firstOf}
 use Rattle.records.specs.declared.legs.Leg.{Leg}
 use Rattle.records.specs.declared.refusals.Fault.the-variants.{Nothing}
 use Rattle.records.proofs.ListLaws.{all-map, allb-all, all-allb}
-use Rattle.records.proofs.OrderLaws.{Pass, clear, unclear}
+use Rattle.records.proofs.PassLaws.{Pass, clear, unclear}
 use Rattle.records.proofs.TableLaws.{within-true}
 use Rattle.spreads.specs.Spreads.{oneOf, doubled, noneDoubled, Spread, spreadChecks}
 

@@ -5,7 +5,7 @@ use lib.IntN.{ℤ}
 use lib.ListN.{length}
 use Rattle.records.specs.Tables.{legsOf}
 use Rattle.records.specs.declared.tables.Kind.{Kind}
-use Rattle.blocks.specs.File.{Tables, tables, tableOf}
+use Rattle.blocks.specs.File.{Tables, tableOf}
 use Rattle.blocks.specs.Reader.{readOf, leaves}
 use Rattle.blocks.specs.Writer.{writeOf, filled}
 use Rattle.spreads.specs.Spreads.{groupOf}

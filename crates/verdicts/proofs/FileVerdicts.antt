@@ -1,75 +1,71 @@
 -- The verdict on a file, by the reader's answer for tables that have room for every sheet.
 use Prim.Native.Nat.{ℕ, _*_, _≤_}
-use mathlib.Core.Path.{_≡_, refl, sym, _∙_}
+use mathlib.Core.Path.{_≡_, sym, _∙_}
 use mathlib.Core.List.{List}
 use native.Mathlib.Omega.{arith}
 use lib.ListN.{length, take}
 use Rattle.records.specs.Order.{firstOf}
 use Rattle.records.specs.declared.refusals.Refusal.{Refusal}
-use Rattle.records.specs.declared.refusals.Fault.{Fault}
-use Rattle.records.specs.declared.refusals.Fault.the-variants.{Nothing, Is}
+use Rattle.records.specs.declared.refusals.Fault.the-variants.{Nothing}
 use Rattle.records.specs.declared.tables.Kind.the-variants.{Holdings, Placement, Claims}
-use Rattle.records.proofs.PutLaws.{length-putAt, put-front}
+use Rattle.records.proofs.PutLaws.{put-holds, put-front}
 use Rattle.blocks.specs.File.{tablesIn}
-use Rattle.blocks.specs.Reader.{readChecks, countsOf, reading, readOf, leaves}
+use Rattle.blocks.specs.Reader.{readChecks, countsOf, readOf, leaves}
+use Rattle.blocks.specs.Steps.{judged}
 use Rattle.blocks.specs.declared.reader.Counts.{Counts}
+use Rattle.blocks.specs.declared.reader.Reading.{Reading}
 use Rattle.blocks.specs.declared.reader.Reading.the-variants.{Read, Refused as Refused-reading}
-use Rattle.blocks.proofs.ReadLaws.{Bytes, read-bytes}
+use Rattle.blocks.proofs.ReadLaws.{TableBytes, read-bytes, judged-good, judged-refused}
 use Rattle.blocks.proofs.TablesFit.{read-roomy}
 use Rattle.sheets.specs.Verdicts.{verdictOf}
 use Rattle.sheets.specs.declared.sheet.Verdict.the-variants.{Refused}
 use Rattle.verdicts.specs.FileVerdicts.{fileVerdict}
 
-reading-refused : (f : Fault) (n : Counts) (r : Refusal) → reading f n ≡ Refused-reading r → f ≡ Is r
-reading-refused Nothing n r e = let z : _≡_ {A = ℕ} 0 1 = cc in absurd (omega arith)
-reading-refused (Is q) n r e = cc
-
-reading-read : (f : Fault) (n m : Counts) → reading f n ≡ Read m → (f ≡ Nothing) × (m ≡ n)
-reading-read Nothing n m e = (refl, (cc))
-reading-read (Is q) n m e = let z : _≡_ {A = ℕ} 0 1 = cc in absurd (omega arith)
+-- h, p and c hold the sheet of a file with so many records
+pub record SheetRead (file : List ℕ) (n : Counts) (h p c : List ℕ) : Type 0 where
+  pub holdings : 32 * n .holdings ≤ length h
+  pub placement : 32 * n .placement ≤ length p
+  pub claims : 32 * n .claims ≤ length c
+  pub verdict : verdictOf (take (32 * n .holdings) h) (take (32 * n .placement) p) (take (32 * n .claims) c) ≡ fileVerdict file
 
 module _ (file : List ℕ) where
   -- tables for 256, 256 and 32 records have room for every sheet
-  read-whole : readOf file 8192 8192 1024 ≡ reading (firstOf (readChecks file)) (countsOf (tablesIn file))
+  read-whole : readOf file 8192 8192 1024 ≡ judged file
   read-whole = read-roomy file 8192 8192 1024 (omega arith) (omega arith) (omega arith)
 
   pub file-refused : (r : Refusal) → readOf file 8192 8192 1024 ≡ Refused-reading r → Refused r ≡ fileVerdict file
   unfolding fileVerdict
-  file-refused r e = rw (reading-refused (firstOf (readChecks file)) (countsOf (tablesIn file)) r (sym read-whole ∙ e)) refl
+  file-refused r e = rw (judged-refused file r (sym read-whole ∙ e))
 
-  module _ (n : Counts) (e : readOf file 8192 8192 1024 ≡ Read n) where
-    passed : firstOf (readChecks file) ≡ Nothing
-    passed = reading-read (firstOf (readChecks file)) (countsOf (tablesIn file)) n (sym read-whole ∙ e) .0
+  module _ (r : Reading) (n : Counts) (x : r ≡ readOf file 8192 8192 1024) (e : r ≡ Read n) where
+    passed : (firstOf (readChecks file) ≡ Nothing) × (countsOf (tablesIn file) ≡ n)
+    passed = judged-good file n (sym read-whole ∙ sym x ∙ e)
 
-    bytes : Bytes file n
-    bytes = read-bytes file n passed (reading-read (firstOf (readChecks file)) (countsOf (tablesIn file)) n (sym read-whole ∙ e) .1)
+    bytes : TableBytes file n
+    bytes = read-bytes file n (passed .0) (sym (passed .1))
 
-    module _ (d₁ d₂ d₃ h p c : List ℕ) (e₁ : h ≡ leaves (Read n) Holdings file d₁) (e₂ : p ≡ leaves (Read n) Placement file d₂)
-        (e₃ : c ≡ leaves (Read n) Claims file d₃) where
-      pub file-read : verdictOf (take (32 * n .holdings) h) (take (32 * n .placement) p) (take (32 * n .claims) c) ≡ fileVerdict file
-      unfolding fileVerdict leaves
-      file-read =
-          let b = bytes in
-          rw (
-            passed,
+    -- and what the reader leaves in the lent tables
+    pub file-read : (d₁ d₂ d₃ h p c : List ℕ)
+        → h ≡ leaves r Holdings file d₁ → p ≡ leaves r Placement file d₂ → c ≡ leaves r Claims file d₃ → SheetRead file n h p c
+    unfolding fileVerdict leaves
+    file-read d₁ d₂ d₃ h p c e₁ e₂ e₃ =
+        let t = tablesIn file in
+        let b = bytes in
+        record {
+          holdings = rw (e₁, e) (omega (arith, put-holds d₁ (t .holdings), b .holdings));
+          placement = rw (e₂, e) (omega (arith, put-holds d₂ (t .placement), b .placement));
+          claims = rw (e₃, e) (omega (arith, put-holds d₃ (t .claims), b .claims));
+          verdict = rw (
+            passed .0,
             e₁,
             e₂,
             e₃,
+            e,
             b .holdings .0,
             b .placement .0,
             b .claims .0,
-            put-front d₁ (tablesIn file .holdings),
-            put-front d₂ (tablesIn file .placement),
-            put-front d₃ (tablesIn file .claims),
-          ) refl
-
-      pub file-room : length d₁ ≡ 8192 → length d₂ ≡ 8192 → length d₃ ≡ 1024
-          → (32 * n .holdings ≤ length h) × (32 * n .placement ≤ length p) × (32 * n .claims ≤ length c)
-      unfolding leaves
-      file-room l₁ l₂ l₃ =
-          let b = bytes in
-          rw (e₁, e₂, e₃) (
-            omega (arith, length-putAt d₁ 0 (tablesIn file .holdings) (omega (arith, b .holdings)), b .holdings),
-            omega (arith, length-putAt d₂ 0 (tablesIn file .placement) (omega (arith, b .placement)), b .placement),
-            omega (arith, length-putAt d₃ 0 (tablesIn file .claims) (omega (arith, b .claims)), b .claims),
-          )
+            put-front d₁ (t .holdings),
+            put-front d₂ (t .placement),
+            put-front d₃ (t .claims),
+          );
+        }

@@ -1,5 +1,5 @@
--- What is demanded of the check of a file's bytes: what the crate sheets demands of three tables, of those that the file has.
--- The proofs stand in proofs/Demands.antt.
+-- What is demanded of the check of a file's bytes (README.md): what the crate sheets demands of three tables, of those that
+-- the file has. The proofs stand in proofs/Demands.antt.
 use mathlib.Core.Path.{_≡_}
 use mathlib.Core.Logic.{_↔_}
 use mathlib.Core.List.{List}
@@ -16,7 +16,7 @@ use Rattle.sheets.specs.Sheets.{totalOf}
 use Rattle.sheets.specs.declared.sheet.Verdict.the-variants.{Accepted}
 use Rattle.verdicts.specs.FileVerdicts.{fileVerdict}
 
--- 'every sheet that keeps the rules is accepted', and no other is: a file that can be read, whose sheet keeps the rules
+-- demand 3: 'every sheet that keeps the rules is accepted', and no other is: a file that can be read, whose sheet keeps the rules
 abbrev pub FileJust : Type 0
 FileJust = (file : List ℕ) (n total : ℕ) → (fileVerdict file ≡ Accepted n (pos total))
     ↔ ((firstOf (readChecks file) ≡ Nothing)
@@ -24,6 +24,6 @@ FileJust = (file : List ℕ) (n total : ℕ) → (fileVerdict file ≡ Accepted 
     × (n ≡ length (claimsOf (tablesIn file .claims)))
     × (total ≡ totalOf (claimsOf (tablesIn file .claims))))
 
--- 'an accepted sheet covers every price of each underlying, in any fraction of a mill'
+-- demand 3: 'an accepted sheet covers every price of each underlying, in any fraction of a mill'
 abbrev pub FileCovers : Type 0
 FileCovers = (file : List ℕ) (n total : ℕ) → fileVerdict file ≡ Accepted n (pos total) → Covers total (legsOf (tablesIn file .holdings))

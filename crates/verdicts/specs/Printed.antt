@@ -1,5 +1,5 @@
 -- The printed line: 'the word, groups, total mills, one space between, a newline at the end'; 'the word, number, table, place'.
-use Prim.Native.Nat.{ℕ, zero, suc, _+_, _-_, _*_, _/_, _%_, _≤_}
+use Prim.Native.Nat.{ℕ, zero, suc, _+_, _/_, _%_}
 use mathlib.Core.Path.{_≡_}
 use mathlib.Core.Bool.{true, false}
 use mathlib.Core.List.{List, [], _∷_, _++_}
@@ -15,10 +15,10 @@ use Rattle.sheets.specs.declared.sheet.Verdict.the-variants.{Accepted, Refused}
 abbrev pub digit : ℕ → ℕ
 digit d = 48 + d
 
--- the last digits of n, most significant first, as far as `most` goes
+-- the last digits of n, most significant first, as far as there is room
 unfoldable pub digitsOf : ℕ → ℕ → List ℕ
 digitsOf zero n = []
-digitsOf (suc most) n = elim (ltb n 10) [ true ↦ digit n ∷ [] | false ↦ digitsOf most (n / 10) ++ (digit (n % 10) ∷ []) ]
+digitsOf (suc room) n = elim (ltb n 10) [ true ↦ digit n ∷ [] | false ↦ digitsOf room (n / 10) ++ (digit (n % 10) ∷ []) ]
 
 -- a number in the fewest decimal digits, zero as one: n + 1 digits are always enough
 unfoldable pub decimalOf : ℕ → List ℕ
@@ -64,22 +64,9 @@ abbrev pub lineOf : Verdict → List ℕ
 lineOf (Accepted groups total) = acceptLine groups total
 lineOf (Refused r) = refuseLine r
 
--- ---- what makes digits right: the characters 0 to 9, and the number that they say
-
-abbrev pub IsDigit : ℕ → Type 0
-IsDigit c = (48 ≤ c) × (c ≤ 57)
-
--- read from the left, after digits that said `left`
-unfoldable pub valueFrom : ℕ → List ℕ → ℕ
-valueFrom left [] = left
-valueFrom left (d ∷ ds) = valueFrom (10 * left + (d - 48)) ds
-
-abbrev pub valueOf : List ℕ → ℕ
-valueOf ds = valueFrom 0 ds
-
 -- ---- inside: a piece of a line
 
 -- `text` stands from index `at` on, the rest as it was, and the next index is the one past it
-pub record Wrote (before : List ℕ) (at : ℕ) (text : List ℕ) (next : ℕ) (after : List ℕ) : Type 0 where
+pub record Piece (before : List ℕ) (at : ℕ) (text : List ℕ) (next : ℕ) (after : List ℕ) : Type 0 where
   pub ends : next ≡ at + length text
   pub puts : after ≡ putAt before at text

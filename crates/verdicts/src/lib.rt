@@ -4,4 +4,5 @@ mod file;
 mod line;
 
 pub use file::check_file;
+pub use line::LINE_BYTES;
 pub use line::verdict_line;

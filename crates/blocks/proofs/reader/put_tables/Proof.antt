@@ -1,5 +1,5 @@
 use denote.Ref.{now}
-use mathlib.Core.Path.{refl, sym, ap, _∙_}
+use mathlib.Core.Path.{refl, sym, _∙_}
 use mathlib.Core.List.{List}
 use Prim.Native.Nat.{ℕ}
 use native.Mathlib.Omega.{arith}
@@ -8,9 +8,8 @@ use Rattle.records.specs.Lists.{All}
 use Rattle.blocks.specs.File.{blocksOf, tablesIn}
 use Rattle.blocks.specs.Reader.{leaves}
 use Rattle.blocks.specs.Steps.{Sized}
-use Rattle.blocks.specs.declared.reader.Reading.the-variants.{Read}
-use Rattle.blocks.proofs.SoundFile.{read-sound}
-use Rattle.blocks.proofs.ReadLaws.{Bytes, read-bytes, read-done, short-1, short-2, short-3}
+use Rattle.blocks.proofs.GoodBlocks.{read-good}
+use Rattle.blocks.proofs.ReadLaws.{TableBytes, read-bytes, Answers, answers}
 use borrow.Author.Needs.{needs}
 use Rattle.blocks.proofs.reader.put_tables.Statement.{statement}
 use Rattle.blocks.proofs.reader.put_tables.Tie as tie
@@ -18,11 +17,15 @@ use Rattle.blocks.proofs.reader.put_tables.Tie as tie
 abbrev file : tie.Start → List ℕ
 file z = now (z .args .file)
 
-bytes : (z : tie.Start) → Bytes (file z) (z .args .counts)
+bytes : (z : tie.Start) → TableBytes (file z) (z .args .counts)
 bytes z = read-bytes (file z) (z .args .counts) (z .pre .0) (z .pre .1)
 
 sized : (z : tie.Start) → All Sized (blocksOf (file z))
-sized z = read-sound (file z) (z .pre .0) .sized
+sized z = read-good (file z) (z .pre .0) .sized
+
+answer : (z : tie.Start)
+    → Answers (file z) (length (now (z .args .holdings))) (length (now (z .args .placement))) (length (now (z .args .claims))) (z .args .counts)
+answer z = answers (file z) _ _ _ (z .args .counts) (z .pre .0) (z .pre .1)
 
 abbrev start : tie.After-struct-known3 → tie.Start
 start c = c .before .before .before .before .before .before .before
@@ -31,31 +34,22 @@ returns : tie.Need-returns
 unfolding leaves
 returns c =
     let z = start (c .before .before) in
-    let a = z .args in (
-      c .no-room .ensures ∙ sym (short-1 (file z) (length (now (a .holdings))) (length (now (a .placement))) (length (now (a .claims))) (z .pre .0) (a .counts) (bytes z) (c .before .if1 .taken)),
-      rw (c .no-room .ensures) (refl, (refl, refl)),
-    )
+    (c .no-room .ensures ∙ sym (answer z .short-1 (c .before .if1 .taken)), rw (c .no-room .ensures) (refl, (refl, refl)))
 
 returns-2 : tie.Need-returns-2
 unfolding leaves
 returns-2 c =
     let e1 = c .before .before in
     let z = start (e1 .before) in
-    let a = z .args in (
-      c .no-room2 .ensures
-          ∙ sym (short-2 (file z) (length (now (a .holdings))) (length (now (a .placement))) (length (now (a .claims))) (z .pre .0) (a .counts) (bytes z) (e1 .if1 .left) (c .before .if2 .taken)),
-      rw (c .no-room2 .ensures) (refl, (refl, refl)),
-    )
+    (c .no-room2 .ensures ∙ sym (answer z .short-2 (e1 .if1 .left) (c .before .if2 .taken)), rw (c .no-room2 .ensures) (refl, (refl, refl)))
 
 returns-3 : tie.Need-returns-3
 unfolding leaves
 returns-3 c =
     let e2 = c .before .before in
     let e1 = e2 .before in
-    let z = start (e1 .before) in
-    let a = z .args in (
-      c .no-room3 .ensures
-          ∙ sym (short-3 (file z) (length (now (a .holdings))) (length (now (a .placement))) (length (now (a .claims))) (z .pre .0) (a .counts) (bytes z) (e1 .if1 .left) (e2 .if2 .left) (c .before .if3 .taken)),
+    let z = start (e1 .before) in (
+      c .no-room3 .ensures ∙ sym (answer z .short-3 (e1 .if1 .left) (e2 .if2 .left) (c .before .if3 .taken)),
       rw (c .no-room3 .ensures) (refl, (refl, refl)),
     )
 
@@ -89,11 +83,8 @@ returns-4 c =
     let e3 = g1 .before .before in
     let e2 = e3 .before in
     let e1 = e2 .before in
-    let z = start (e1 .before) in
-    let a = z .args in
-    let b = bytes z in (
-      ap Read (z .pre .1) ∙ sym (read-done (file z) (length (now (a .holdings))) (length (now (a .placement))) (length (now (a .claims))) (z .pre .0)
-          (omega (arith, b .holdings .0, e1 .if1 .left)) (omega (arith, b .placement .0, e2 .if2 .left)) (omega (arith, b .claims .0, e3 .if3 .left))),
+    let z = start (e1 .before) in (
+      sym (answer z .done (e1 .if1 .left) (e2 .if2 .left) (e3 .if3 .left)),
       (g1 .copy-kind .ensures, (g2 .copy-kind2 .ensures, g3 .copy-kind3 .ensures)),
     )
 

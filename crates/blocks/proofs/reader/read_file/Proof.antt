@@ -18,10 +18,9 @@ returns : tie.Need-returns
 unfolding leaves
 returns c =
     let j = c .before .before .before in
-    let a = j .before .before .before .before .before .args in (
-      sym (read-refused (now (a .file)) (length (now (a .holdings))) (length (now (a .placement))) (length (now (a .claims))) _ (sym (j .judge .ensures) ∙ c .before .refusal .given .1)),
-      (refl, (refl, refl)),
-    )
+    let a = j .before .before .before .before .before .args in
+    let e = sym (j .judge .ensures) ∙ c .before .refusal .given .1 in
+    (sym (read-refused (now (a .file)) (length (now (a .holdings))) (length (now (a .placement))) (length (now (a .claims))) _ e), (refl, (refl, refl)))
 
 pub read-file-spec : {M : Type 1} → statement M
 read-file-spec =

@@ -1,34 +1,36 @@
-use Rattle.verdicts.proofs.FileVerdicts.{file-refused, file-room, file-read}
+use Rattle.verdicts.proofs.FileVerdicts.{SheetRead, file-refused, file-read}
 use denote.Ref.{now}
-use mathlib.Core.Path.{refl, sym, _∙_}
+use mathlib.Core.Path.{sym, _∙_}
+use mathlib.Core.List.{List}
+use Prim.Native.Nat.{ℕ}
 use borrow.Author.Needs.{needs}
 use Rattle.verdicts.proofs.file.check_file.Statement.{statement}
 use Rattle.verdicts.proofs.file.check_file.Tie as tie
 
+abbrev file : tie.After-read-file → List ℕ
+file r = now (r .before .before .before .before .before .args .file)
+
+abbrev read : tie.After-counts → tie.After-read-file
+read k = k .before .before .before .before .before
+
+left : (k : tie.After-counts)
+    → (let r = read k .read-file in SheetRead (file (read k)) (k .counts .given .0 .0) (r .last .1 .0) (r .last .1 .1 .0) (r .last .1 .1 .1 .0))
+left k =
+    let r = read k .read-file .ensures in
+    file-read (file (read k)) _ _ (r .0) (k .counts .given .1) _ _ _ _ _ _ (r .1 .0) (r .1 .1 .0) (r .1 .1 .1)
+
 check-read-requires : tie.Need-check-read-requires
 check-read-requires c κs =
-    let s = c .before .before .before .before .before .before .before .before .before .before .before .before .before .before in
-    let r = c .before .before .before .before .before .before .before .before .before .read-file in
-    let e = c .before .before .before .before .counts .given .1 in
-    let h = rw e at (r .ensures .1 .0) in
-    let p = rw e at (r .ensures .1 .1 .0) in
-    let q = rw e at (r .ensures .1 .1 .1) in
-    file-room (now (s .args .file)) _ (sym (r .ensures .0) ∙ e) _ _ _ _ _ _ h p q refl refl refl
+    let l = left (c .before .before .before .before) in
+    (l .holdings, l .placement, l .claims)
 
 returns : tie.Need-returns
 returns c =
-    let s = c .before .before .before .before .before .before .before .before .before .before .before in
-    file-refused (now (s .args .file)) _ (sym (c .before .before .before .before .before .before .read-file .ensures .0) ∙ c .before .refusal .given .1)
+    let r = c .before .before .before .before .before .before in
+    file-refused (file r) _ (sym (r .read-file .ensures .0) ∙ c .before .refusal .given .1)
 
 returns-2 : tie.Need-returns-2
-returns-2 c =
-    let s = c .before .before .before .before .before .before .before .before .before .before .before .before .before .before .before in
-    let r = c .before .before .before .before .before .before .before .before .before .before .read-file in
-    let e = c .before .before .before .before .before .counts .given .1 in
-    let h = rw e at (r .ensures .1 .0) in
-    let p = rw e at (r .ensures .1 .1 .0) in
-    let q = rw e at (r .ensures .1 .1 .1) in
-    c .check-read .ensures ∙ file-read (now (s .args .file)) _ (sym (r .ensures .0) ∙ e) _ _ _ _ _ _ h p q
+returns-2 c = c .check-read .ensures ∙ left (c .before .before .before .before .before) .verdict
 
 pub check-file-spec : {M : Type 1} → statement M
 check-file-spec =
