@@ -21,6 +21,7 @@ pub mod GatheredLaws
 -- the walk up the strikes
 pub mod Worths
 pub mod Ascending
+pub mod StrikeLaws
 pub mod Walks
 pub mod Written
 pub mod WalkResults

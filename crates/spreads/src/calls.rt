@@ -58,15 +58,15 @@ fn list_strikes(placement: &[u8], g: usize, strikes: &mut [u32], nets: &mut [i64
     ensures { λ r. ⌜ now (strikes .exit) ≡ listLeft r (strikesOf (groupIn (now (placement .entry)) g)) (now (strikes .entry)) ⌝ }
     ensures { λ r. ⌜ now (nets .exit) ≡ listLeft r (netsOf (groupIn (now (placement .entry)) g)) (now (nets .entry)) ⌝ }
 {
-    let n = count_strikes(placement, g);
-    if (n <= strikes.len()) & (n <= nets.len()) {
+    let count = count_strikes(placement, g);
+    if (count <= strikes.len()) & (count <= nets.len()) {
         fill(placement, g, strikes, nets);
-        return Listed::Entries(n);
+        return Listed::Entries(count);
     }
     Listed::Refused(Refusal {
         number: 17,
         table: 0,
-        place: n,
+        place: count,
     })
 }
 
