@@ -12,14 +12,6 @@ pub(crate) fn print_number(n: usize) {
     io::print_decimal(STDOUT_FILENO, n as u64);
 }
 
-// An amount without its sign.
-fn magnitude(mills: i64) -> u64 {
-    if mills < 0 {
-        return (!mills) as u64 + 1;
-    }
-    mills as u64
-}
-
 // A space and an amount.
 pub(crate) fn print_mills(mills: i64) {
     if mills < 0 {
@@ -27,7 +19,7 @@ pub(crate) fn print_mills(mills: i64) {
     } else {
         print(b" ");
     }
-    io::print_decimal(STDOUT_FILENO, magnitude(mills));
+    io::print_decimal(STDOUT_FILENO, verdicts::magnitude(mills));
 }
 
 pub(crate) fn print_refusal(refusal: Refusal) {

@@ -108,15 +108,15 @@ module _ (f : List ℕ) (h p c : ℕ) (good : firstOf (readChecks f) ≡ Nothing
       ∙ rw (le-leb (length (tablesIn f .holdings)) h rh, le-leb (length (tablesIn f .placement)) p rp, le-leb (length (tablesIn f .claims)) c rc)
 
 -- by which tables have room for so many records: refusal 17 at the first that has not, or the counts
-pub record Answers (f : List ℕ) (h p c : ℕ) (n : Counts) : Type 0 where
+pub record ByRoom (f : List ℕ) (h p c : ℕ) (n : Counts) : Type 0 where
   pub short-1 : h < 32 * n .holdings → readOf f h p c ≡ Refused (refuse 17 1 (32 * n .holdings))
   pub short-2 : 32 * n .holdings ≤ h → p < 32 * n .placement → readOf f h p c ≡ Refused (refuse 17 2 (32 * n .placement))
   pub short-3 : 32 * n .holdings ≤ h → 32 * n .placement ≤ p → c < 32 * n .claims → readOf f h p c ≡ Refused (refuse 17 3 (32 * n .claims))
   pub done : 32 * n .holdings ≤ h → 32 * n .placement ≤ p → 32 * n .claims ≤ c → readOf f h p c ≡ Read n
 
-pub answers : (f : List ℕ) (h p c : ℕ) (n : Counts) → firstOf (readChecks f) ≡ Nothing → n ≡ countsOf (tablesIn f) → Answers f h p c n
+pub by-room : (f : List ℕ) (h p c : ℕ) (n : Counts) → firstOf (readChecks f) ≡ Nothing → n ≡ countsOf (tablesIn f) → ByRoom f h p c n
 unfolding firstOf
-answers f h p c n good e =
+by-room f h p c n good e =
     let b = read-bytes f n good e in
     let eh = b .holdings .0 in
     let ep = b .placement .0 in
