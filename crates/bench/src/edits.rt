@@ -1,16 +1,14 @@
 // The commands that change the memory and print nothing.
 ghost use Prim.Native.Nat.{_≤_};
 use crate::bytes::add_number;
-use crate::bytes::blank;
 use crate::bytes::low;
-use crate::bytes::wide;
 use crate::memory::base;
 use crate::memory::repeat;
 use crate::memory::resize;
 use crate::memory::room;
 use crate::memory::set_byte;
 use crate::memory::size;
-use crate::text::byte_at;
+use crate::seals::seal;
 use crate::text::letter;
 use crate::text::number;
 use crate::text::says;
@@ -91,39 +89,8 @@ fn clear(memory: &mut [u8], sizes: &mut [usize]) {
     resize(memory, sizes, b'f', 0);
 }
 
-// The two checks of a block, as a file has them.
-struct Checks {
-    a: usize,
-    b: usize,
-}
-
-// A is the sum of the bytes 0 to 507, and B the sum of (508 - i) times byte i: each byte is added to A,
-// and A to B.
-fn block_sums(memory: &[u8], at: usize) -> Checks
-    requires { ⌜ at ≤ 65536 ⌝ }
-{
-    let mut a: usize = 0;
-    let mut b: usize = 0;
-    let mut i: usize = 0;
-    while i < 508 {
-        a = (a + wide(byte_at(memory, at + i))) % 65536;
-        b = (b + a) % 65536;
-        i += 1;
-    }
-    Checks { a, b }
-}
-
-// Puts the two checks of a block of the file right.
-fn seal(memory: &mut [u8], block: usize) {
-    let at = base(b'f') + 512 * smaller(block, 47);
-    let checks = block_sums(memory, at);
-    blank(memory, at + 508, at + 512, 0);
-    add_number(memory, at + 508, 2, checks.a);
-    add_number(memory, at + 510, 2, checks.b);
-}
-
-// Whether the line is one of these commands; if so, it is done.
-pub(crate) fn edit(line: &[u8], memory: &mut [u8], sizes: &mut [usize]) -> bool {
+// The commands on whole records. Whether the line is one of them; if so, it is done.
+fn edit_records(line: &[u8], memory: &mut [u8], sizes: &mut [usize]) -> bool {
     if says(line, b"h") | says(line, b"p") | says(line, b"c") {
         append(line, memory, sizes);
         return true;
@@ -136,6 +103,15 @@ pub(crate) fn edit(line: &[u8], memory: &mut [u8], sizes: &mut [usize]) -> bool 
         fill(line, memory, sizes);
         return true;
     }
+    if says(line, b"cut") {
+        resize(memory, sizes, letter(line, 1), number(line, 2));
+        return true;
+    }
+    false
+}
+
+// The commands on single bytes, likewise.
+fn edit_bytes(line: &[u8], memory: &mut [u8]) -> bool {
     if says(line, b"byte") {
         set_byte(
             memory,
@@ -149,13 +125,16 @@ pub(crate) fn edit(line: &[u8], memory: &mut [u8], sizes: &mut [usize]) -> bool 
         bump(memory, letter(line, 1), number(line, 2), number(line, 3));
         return true;
     }
-    if says(line, b"cut") {
-        resize(memory, sizes, letter(line, 1), number(line, 2));
-        return true;
-    }
     if says(line, b"seal") {
         seal(memory, number(line, 1));
         return true;
     }
     false
+}
+
+pub(crate) fn edit(line: &[u8], memory: &mut [u8], sizes: &mut [usize]) -> bool {
+    if edit_records(line, memory, sizes) {
+        return true;
+    }
+    edit_bytes(line, memory)
 }

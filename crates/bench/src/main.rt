@@ -23,6 +23,7 @@ mod files;
 mod lists;
 mod memory;
 mod print;
+mod seals;
 mod text;
 
 use libc::STDIN_FILENO;
@@ -73,7 +74,23 @@ fn ask_tables(line: &[u8], memory: &[u8], sizes: &[usize]) -> bool {
     false
 }
 
-// The other commands that answer.
+// The commands on the file that answer, likewise.
+fn ask_files(line: &[u8], memory: &mut [u8], sizes: &mut [usize]) -> bool {
+    if says(line, b"write") {
+        files::write(memory, sizes, number(line, 1));
+        return true;
+    }
+    if says(line, b"file") {
+        files::file(memory, sizes);
+        return true;
+    }
+    if says(line, b"read") {
+        files::read(line, memory, sizes);
+        return true;
+    }
+    false
+}
+
 fn ask(line: &[u8], memory: &mut [u8], sizes: &mut [usize]) {
     if ask_tables(line, memory, sizes) {
         return;
@@ -82,16 +99,7 @@ fn ask(line: &[u8], memory: &mut [u8], sizes: &mut [usize]) {
         attempt(line, memory, sizes);
         return;
     }
-    if says(line, b"write") {
-        files::write(memory, sizes, number(line, 1));
-        return;
-    }
-    if says(line, b"file") {
-        files::file(memory, sizes);
-        return;
-    }
-    if says(line, b"read") {
-        files::read(line, memory, sizes);
+    if ask_files(line, memory, sizes) {
         return;
     }
     print(b" ?\n");

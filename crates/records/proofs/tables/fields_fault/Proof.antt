@@ -13,13 +13,24 @@ returns-2 : tie.Need-returns-2
 unfolding fieldsChecks
 returns-2 c =
     let f = c .before .before .before in
-    rw (first-append, sym (f .before .before .before .field-fault .ensures) ∙ f .before .enum-told .given .1, first-append, sym (f .field-fault2 .ensures) ∙ c .before .refusal2 .given .1)
+    rw (
+      first-append,
+      sym (f .before .before .before .field-fault .ensures) ∙ f .before .enum-told .given .1,
+      first-append,
+      sym (f .field-fault2 .ensures) ∙ c .before .refusal2 .given .1,
+    )
 
 returns-3 : tie.Need-returns-3
 unfolding fieldsChecks
 returns-3 c =
     let f = c .before .before .before in
-    rw (first-append, sym (f .before .before .before .field-fault .ensures) ∙ f .before .enum-told .given .1, first-append, sym (f .field-fault2 .ensures) ∙ c .before .enum-told2 .given .1) (c .field-fault3 .ensures)
+    rw (
+      first-append,
+      sym (f .before .before .before .field-fault .ensures) ∙ f .before .enum-told .given .1,
+      first-append,
+      sym (f .field-fault2 .ensures) ∙ c .before .enum-told2 .given .1,
+    )
+    (c .field-fault3 .ensures)
 
 pub fields-fault-spec : {M : Type 1} → statement M
 fields-fault-spec =

@@ -1,7 +1,7 @@
 use Prim.Native.Nat.{_-_, _<_, _≤_}
 use borrow.Author.Needs.{needs}
-use Rattle.bench.proofs.edits.block_sums.Statement.{statement}
-use Rattle.bench.proofs.edits.block_sums.Tie as tie
+use Rattle.bench.proofs.seals.block_sums.Statement.{statement}
+use Rattle.bench.proofs.seals.block_sums.Tie as tie
 
 abbrev Inv-loop : tie.InvT-loop
 Inv-loop memory at a₀ b₀ i₀ a b i = (i ≤ 508) × (a < 65536) × (b < 65536)
