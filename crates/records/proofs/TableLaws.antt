@@ -11,7 +11,8 @@ use native.Mathlib.Omega.{arith}
 use Rattle.records.specs.Lists.{All}
 use Rattle.records.specs.Bytes.{leAt}
 use Rattle.records.specs.Chunks.{chunkAt, recordsOf}
-use Rattle.records.specs.Dates.{within, realDate}
+use Rattle.records.specs.Within.{within}
+use Rattle.records.specs.Dates.{realDate}
 use Rattle.records.specs.Legs.{legOf, inRange, goodLeg, units}
 use Rattle.records.specs.Claims.{mostMills, claimOf, goodClaim}
 use Rattle.records.specs.Order.{firstOf}

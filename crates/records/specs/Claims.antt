@@ -5,7 +5,7 @@ use mathlib.Core.List.{List}
 use lib.Dec.{eqb, leb}
 use lib.ListN.{length}
 use Rattle.records.specs.Bytes.{leAt}
-use Rattle.records.specs.Dates.{within}
+use Rattle.records.specs.Within.{within}
 use Rattle.records.specs.declared.claims.Claim.{Claim}
 
 -- '0 to 2,560,000,000,000,000,000'

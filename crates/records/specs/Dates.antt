@@ -2,12 +2,9 @@
 use Prim.Native.Nat.{ℕ, _-_, _/_, _%_}
 use mathlib.Core.Bool.{Bool, _&&_, _||_, not, cond}
 use mathlib.Core.List.{List, [], _∷_}
-use lib.Dec.{leb, eqb}
+use lib.Dec.{eqb}
 use lib.ListN.{getD}
-
--- low to high, both included
-abbrev pub within : ℕ → ℕ → ℕ → Bool
-within low high x = leb low x && leb x high
+use Rattle.records.specs.Within.{within}
 
 abbrev pub leapYear : ℕ → Bool
 leapYear year = eqb (year % 4) 0 && (not (eqb (year % 100) 0) || eqb (year % 400) 0)

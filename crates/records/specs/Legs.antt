@@ -5,7 +5,8 @@ use mathlib.Core.List.{List}
 use lib.Dec.{eqb, leb}
 use lib.ListN.{length}
 use Rattle.records.specs.Bytes.{leAt}
-use Rattle.records.specs.Dates.{within, realDate}
+use Rattle.records.specs.Within.{within}
+use Rattle.records.specs.Dates.{realDate}
 use Rattle.records.specs.declared.counts.Contracts.{Contracts}
 use Rattle.records.specs.declared.counts.Units.{Units}
 use Rattle.records.specs.declared.legs.Leg.{Leg}

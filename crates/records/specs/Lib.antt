@@ -2,6 +2,7 @@ pub mod Lists
 pub mod Chunks
 pub mod Written
 pub mod Bytes
+pub mod Within
 pub mod Dates
 pub mod Legs
 pub mod Claims

@@ -4,13 +4,13 @@ ghost use Prim.Native.Nat.{_≤_};
 ghost use lib.ListN.{length};
 ghost use Rattle.records.specs.Chunks.{chunkAt};
 ghost use Rattle.records.specs.Claims.{claimFields, claimOf, goodClaim};
-use crate::dates::is_within;
 use crate::fields::u16_in;
 use crate::fields::u32_in;
 use crate::fields::u64_in;
 use crate::limits::MOST_GROUPS;
 use crate::limits::MOST_MILLS;
 use crate::limits::RECORD_BYTES;
+use crate::within::is_within;
 
 pub struct Claim {
     pub group: u16,

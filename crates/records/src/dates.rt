@@ -1,12 +1,7 @@
 // Expiries: YYYYMMDD as a number, a real date, 20000101 to 20991231.
 ghost use mathlib.Core.Path.{_≡_};
-ghost use Rattle.records.specs.Dates.{within, leapYear, daysIn, realDate};
-
-pub(crate) fn is_within(low: u32, high: u32, x: u32) -> bool
-    ensures { λ r. ⌜ r ≡ within low high x ⌝ }
-{
-    (low <= x) & (x <= high)
-}
+ghost use Rattle.records.specs.Dates.{leapYear, daysIn, realDate};
+use crate::within::is_within;
 
 fn leap_year(year: u32) -> bool
     ensures { λ r. ⌜ r ≡ leapYear year ⌝ }

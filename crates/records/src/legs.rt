@@ -5,13 +5,13 @@ ghost use lib.ListN.{length};
 ghost use Rattle.records.specs.Chunks.{chunkAt};
 ghost use Rattle.records.specs.Legs.{legFields, legOf, inRange, goodLeg};
 use crate::counts::Contracts;
-use crate::dates::is_within;
 use crate::dates::real_date;
 use crate::fields::u8_in;
 use crate::fields::u16_in;
 use crate::fields::u32_in;
 use crate::fields::u64_in;
 use crate::limits::RECORD_BYTES;
+use crate::within::is_within;
 
 // 'side': 1 long, 2 short
 pub const LONG: u8 = 1;

@@ -8,6 +8,7 @@ mod legs;
 mod limits;
 mod refusals;
 mod tables;
+mod within;
 
 pub use claims::Claim;
 pub use claims::claim_at;

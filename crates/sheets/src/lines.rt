@@ -11,6 +11,7 @@ use records::Kind;
 use records::Leg;
 use records::RECORD_BYTES;
 use records::Refusal;
+use records::SHORT;
 
 // Most lines differ in their strike, so it is looked at first.
 fn same_line(a: Leg, b: Leg) -> bool
@@ -94,7 +95,7 @@ pub(crate) fn placed_fault(placement: &[u8]) -> Fault
     let mut i: usize = 0;
     while i < n {
         let leg = records::leg_at(placement, i);
-        if (leg.side == 2) & (leg.group == 0) {
+        if (leg.side == SHORT) & (leg.group == 0) {
             return Fault::Is(Refusal {
                 number: 15,
                 table: 2,

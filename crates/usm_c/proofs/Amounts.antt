@@ -18,10 +18,10 @@ use Rattle.sheets.specs.Sheets.{sheetChecks}
 use Rattle.sheets.specs.Verdicts.{verdictIn, verdictOf}
 use Rattle.sheets.specs.declared.sheet.Verdict.{Verdict}
 use Rattle.verdicts.specs.FileVerdicts.{afterReading, fileVerdict}
-use Rattle.usm_c.specs.Answers.{isMills, DueMills, VerdictMills}
+use Rattle.usm_c.specs.Answers.{IsMills, DueMills, VerdictMills}
 
 -- the bits of such an amount are read as the amount
-pub mills-fit : (z : ℤ) → SFits w64 z → isMills z
+pub mills-fit : (z : ℤ) → SFits w64 z → IsMills z
     → T (nonNeg (toZ w64 (ofZ w64 z))) × Fits w64 (natAbs (toZ w64 (ofZ w64 z)))
 mills-fit (pos n) k e = rw (toZ-ofZ k) (tt, omega (arith, k .sfits))
 mills-fit (negsuc n) k e = let z : _≡_ {A = ℕ} 0 1 = cc in absurd (omega arith)

@@ -68,13 +68,13 @@ tableWords kind xs =
 
 -- ---- inside: an amount is never below zero, so that its word is the amount itself
 
-abbrev pub isMills : ℤ → Type 0
-isMills z = z ≡ pos (natAbs z)
+abbrev pub IsMills : ℤ → Type 0
+IsMills z = z ≡ pos (natAbs z)
 
 abbrev pub DueMills : Due → Type 0
-DueMills (Mills z) = isMills z
+DueMills (Mills z) = IsMills z
 DueMills (Refused-due r) = Unit {0}
 
 abbrev pub VerdictMills : Verdict → Type 0
-VerdictMills (Accepted n z) = isMills z
+VerdictMills (Accepted n z) = IsMills z
 VerdictMills (Refused-verdict r) = Unit {0}

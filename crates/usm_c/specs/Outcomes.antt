@@ -8,7 +8,7 @@ use Rattle.records.specs.declared.tables.Kind.{Kind}
 use Rattle.blocks.specs.File.{Tables, tableOf}
 use Rattle.blocks.specs.Reader.{readOf, leaves}
 use Rattle.blocks.specs.Writer.{writeOf, filled}
-use Rattle.spreads.specs.Spreads.{groupOf}
+use Rattle.spreads.specs.Spreads.{groupIn}
 use Rattle.spreads.specs.Strikes.{strikesOf, netsOf}
 use Rattle.spreads.specs.Calls.{marginsCall, marginsFrom, worksheetCall, listLeft}
 use Rattle.verdicts.specs.FileVerdicts.{fileVerdict}
@@ -30,11 +30,11 @@ worksheetWords placement g strikes nets = listedWords (worksheetCall placement g
 
 abbrev pub strikesLeft : List ℕ → ℕ → List ℕ → List ℤ → List ℕ
 strikesLeft placement g strikes nets =
-    listLeft (worksheetCall placement g (length strikes) (length nets)) (strikesOf (groupOf g (legsOf placement))) strikes
+    listLeft (worksheetCall placement g (length strikes) (length nets)) (strikesOf (groupIn placement g)) strikes
 
 abbrev pub netsLeft : List ℕ → ℕ → List ℕ → List ℤ → List ℤ
 netsLeft placement g strikes nets =
-    listLeft (worksheetCall placement g (length strikes) (length nets)) (netsOf (groupOf g (legsOf placement))) nets
+    listLeft (worksheetCall placement g (length strikes) (length nets)) (netsOf (groupIn placement g)) nets
 
 -- ---- a file read into three tables, and three tables written as a file
 
