@@ -1,3 +1,4 @@
+pub mod RowLaws
 pub mod ContractLaws
 pub mod ClaimLaws
 pub mod Held

@@ -1,18 +1,17 @@
-use Prim.Native.Nat.{_≤_, _-_, _+_, _/_}
+use Prim.Native.Nat.{_≤_, _-_, _/_}
 use mathlib.Core.Path.{_≡_, refl, sym, _∙_}
 use native.Mathlib.Omega.{arith}
 use denote.Ref.{now}
 use lib.ListN.{length}
 use borrow.Author.Needs.{needs}
 use borrow.Author.Tests.{eq-eqb, ne-eqb}
-use mathlib.Core.List.{_∷_}
 use Rattle.records.specs.Legs.{legOf}
 use Rattle.records.specs.Order.{firstOf, askEach}
 use Rattle.records.specs.Tables.{tableNumber, legsOf}
-use Rattle.records.proofs.ChunkLaws.{rowsFrom, rows-next, rows-none}
-use Rattle.records.proofs.OrderLaws.{search-good, search-bad, search-over}
+use Rattle.records.proofs.ChunkLaws.{rowsFrom}
 use Rattle.records.proofs.TableLaws.{legs-all}
 use Rattle.sheets.specs.Lines.{evenAt}
+use Rattle.sheets.proofs.RowLaws.{leg-good, leg-bad, legs-over}
 use Rattle.sheets.proofs.lines.first_uneven.Statement.{statement}
 use Rattle.sheets.proofs.lines.first_uneven.Tie as tie
 
@@ -28,21 +27,13 @@ abbrev μ-loop : tie.MeasureT-loop
 loop-holds : tie.Need-loop-holds Inv-loop μ-loop
 loop-holds c = (refl, omega arith, rw (legs-all (now (c .before .before .before .args .table))))
 
-next : (t : tie.After-leg-at Inv-loop μ-loop)
-    → (let l = t .before .before in
-    let xs = now (l .before .before .before .before .args .table) in
-    rowsFrom legOf xs (l .loop .i) ≡ t .leg-at .result ∷ rowsFrom legOf xs (l .loop .i + 1))
-next t =
-    let l = t .before .before in
-    rows-next legOf (now (l .before .before .before .before .args .table)) (l .loop .i) _ (omega arith) (t .leg-at .ensures)
-
 loop-again : tie.Need-loop-again Inv-loop μ-loop
 unfolding evenAt
 loop-again c =
     let p = c .before in
     let t = p .before .before in
     let even = sym (p .before .contracts-of .ensures) ∙ c .if1 .taken ∙ p .contracts-of2 .ensures in
-    (refl, omega arith, search-good _ _ _ _ _ _ (t .before .before .loop .inv .2) _ _ (next t) (eq-eqb _ _ even))
+    (refl, omega arith, leg-good _ _ _ _ _ _ (t .before .before .loop .inv .2) _ (omega arith) (t .leg-at .ensures) (eq-eqb _ _ even))
 
 returns : tie.Need-returns Inv-loop μ-loop
 unfolding evenAt
@@ -50,13 +41,11 @@ returns c =
     let p = c .before .before in
     let t = p .before .before in
     rw (c .table-number .ensures)
-    (search-bad _ _ _ _ _ _ (t .before .before .loop .inv .2) _ _ (next t)
+    (leg-bad _ _ _ _ _ _ (t .before .before .loop .inv .2) _ (omega arith) (t .leg-at .ensures)
     (ne-eqb _ _ (λ e. c .before .if1 .left (p .before .contracts-of .ensures ∙ e ∙ sym (p .contracts-of2 .ensures)))))
 
 returns-2 : tie.Need-returns-2 Inv-loop μ-loop
-returns-2 c =
-    let l = c .before in
-    search-over _ _ _ _ _ _ (l .loop .inv .2) (rows-none legOf (now (l .before .before .before .before .args .table)) (l .loop .i) (omega arith))
+returns-2 c = legs-over _ _ _ _ _ _ (c .before .loop .inv .2) (omega arith)
 
 pub first-uneven-spec : {M : Type 1} → statement M
 first-uneven-spec =
