@@ -5,7 +5,7 @@ use usm::{Leg, Sheet, Side, MOST_LEGS};
 
 use crate::inputs::claimed;
 
-/// The library numbers lines through buckets by a remainder by this: strikes that many mills apart
+/// The library finds lines through buckets by a remainder by this: strikes that many mills apart
 /// fall into one bucket.
 const BUCKETS: u32 = 509;
 
@@ -34,9 +34,11 @@ pub fn one_bucket() -> Sheet {
     unplaced(longs(1, BUCKETS))
 }
 
-/// No line of the holdings is in the placement, and all share a bucket: 14 at holding 0.
-pub fn one_bucket_uneven() -> Sheet {
-    Sheet { placement: longs(1 + BUCKETS * MOST_LEGS as u32, BUCKETS), ..one_bucket() }
+/// No line of the holdings is in the placement, and they differ in unit size alone, which is the last
+/// thing that the library tells two lines of a bucket apart by: 14 at holding 0.
+pub fn sizes_uneven() -> Sheet {
+    let sized = |first| (first..).zip(longs(1, 0)).map(|(unit_size, leg)| Leg { unit_size, ..leg }).collect();
+    Sheet { holdings: sized(1), placement: sized(1 + MOST_LEGS as u16), claims: Vec::new() }
 }
 
 /// One contract more is held than placed in this record: 14 there.

@@ -170,7 +170,7 @@ fn made_to_be_slow() -> Vec<Row> {
         check_sheet("crafted: 256 lines, all different", &crafted::all_different().tables()),
         check_sheet("crafted: 256 records of one line", &crafted::one_line().tables()),
         check_sheet("crafted: 256 lines of one bucket", &crafted::one_bucket().tables()),
-        check_sheet("crafted: 512 lines of one bucket (14)", &crafted::one_bucket_uneven().tables()),
+        check_sheet("crafted: 512 lines, unit sizes alone (14)", &crafted::sizes_uneven().tables()),
         check_sheet("crafted: one strike, 256 legs", &crafted::one_strike().tables()),
         check_sheet("crafted: the worst found", &crafted::worst_found().tables()),
     ]
