@@ -1,0 +1,8 @@
+//! `check-sheet` as a clerk and a script meet it: verdicts, sentences and statuses ([`verdicts`]), what
+//! cannot be read or written ([`trouble`]), and how the program is made ([`making`]). Nothing is proved
+//! here: the toolchain is one that pretends, in a clone that has only what the script looks at.
+
+mod making;
+mod skeleton;
+mod trouble;
+mod verdicts;
