@@ -3,6 +3,8 @@
 //! here: the toolchain is one that pretends, in a clone that has only what the script looks at.
 
 mod making;
+#[path = "../common/scripts.rs"]
+mod scripts;
 mod skeleton;
 mod trouble;
 mod verdicts;

@@ -3,12 +3,12 @@
 use std::fs;
 use std::process::Stdio;
 
-use crate::skeleton::{proved_program, set_mode, told, write_script, Skeleton};
+use crate::scripts::{put_script, set_mode, told};
+use crate::skeleton::Skeleton;
 
 #[test]
 fn the_first_run_says_what_it_does_and_the_second_nothing() {
-    let skeleton = Skeleton::fresh("first", &proved_program());
-    fs::write(skeleton.file("empty"), "").expect("a file");
+    let skeleton = Skeleton::fresh("first");
     let (first, second) = (skeleton.run(&["empty"]), skeleton.run(&["empty"]));
     let (sources, log) = (skeleton.clone("crates"), skeleton.clone("target/check-sheet/log"));
     let lines: Vec<&str> = first.err.lines().collect();
@@ -31,14 +31,13 @@ fn the_first_run_says_what_it_does_and_the_second_nothing() {
     assert!(talk.contains("fn records::first: proved"), "{talk}");
     assert_eq!((first.status, first.out.as_str()), (1, "REFUSE 1 0 0\n"));
     assert_eq!((second.status, second.err.lines().count()), (1, 1), "{}", second.err);
-    let call = fs::read_to_string(skeleton.folder.join("calls")).expect("the call");
-    assert_eq!(call, format!("{}: check usm_check\n", skeleton.folder.join("clone").display()));
+    let call = fs::read_to_string(skeleton.beside("calls")).expect("the call");
+    assert_eq!(call, format!("{}: check usm_check\n", skeleton.beside("clone").display()));
 }
 
 #[test]
 fn two_first_runs_at_once_do_not_disturb_each_other() {
-    let skeleton = Skeleton::fresh("two", &proved_program());
-    fs::write(skeleton.file("empty"), "").expect("a file");
+    let skeleton = Skeleton::fresh("two");
     skeleton.put_rt("sleep 0.5");
     let start = || {
         let mut command = skeleton.check_sheet();
@@ -57,7 +56,7 @@ fn two_first_runs_at_once_do_not_disturb_each_other() {
 /// What is changed, and whether the program has to be made again.
 #[test]
 fn the_program_is_made_again_when_its_sources_changed() {
-    let skeleton = Skeleton::made("changed", &proved_program());
+    let skeleton = Skeleton::made("changed");
     let source = |name: &str| skeleton.clone("crates").join(name);
     let put = |name: &str, text: &str| {
         fs::create_dir_all(source(name).parent().expect("a folder")).expect("a folder");
@@ -81,7 +80,7 @@ fn the_program_is_made_again_when_its_sources_changed() {
     fs::rename(source("blocks/src/lib.rt"), source("blocks/src/other.rt")).expect("it was there");
     expect("a file of another name", true);
     // What was changed and is put back as it was, an older date included, is what the program was made from.
-    let kept = skeleton.folder.join("kept");
+    let kept = skeleton.beside("kept");
     fs::rename(source("sheets/src/lib.rt"), &kept).expect("it was there");
     fs::rename(&kept, source("sheets/src/lib.rt")).expect("put back");
     expect("nothing in the end", false);
@@ -90,13 +89,13 @@ fn the_program_is_made_again_when_its_sources_changed() {
     expect("what the program is not made of", false);
     fs::write(skeleton.clone("crates.txt"), "records:\nusm_check: records\n").expect("crates.txt");
     expect("the list of crates", true);
-    write_script(&skeleton.clone("target/bin/usm_check"), "#!/usr/bin/env bash\nexit 0\n");
+    put_script(&skeleton.clone("target/bin/usm_check"), "exit 0");
     expect("another program in its place", true);
 }
 
 #[test]
 fn a_program_that_is_there_without_a_word_on_its_sources_is_asked_about() {
-    let skeleton = Skeleton::made("unknown", &proved_program());
+    let skeleton = Skeleton::made("unknown");
     fs::remove_dir_all(skeleton.clone("target/check-sheet")).expect("it was there");
     let run = skeleton.run(&["empty"]);
     assert!(
@@ -109,7 +108,7 @@ fn a_program_that_is_there_without_a_word_on_its_sources_is_asked_about() {
 
 #[test]
 fn a_program_that_cannot_be_made_is_not_replaced_by_an_older_one() {
-    let skeleton = Skeleton::made("refused", &proved_program());
+    let skeleton = Skeleton::made("refused");
     fs::write(skeleton.clone("crates/records/src/lib.rt"), "// wrong\n").expect("a source");
     skeleton.put_rt("exit 1");
     for turn in 0..2 {
@@ -128,9 +127,8 @@ fn a_program_that_cannot_be_made_is_not_replaced_by_an_older_one() {
 
 #[test]
 fn without_the_toolchain_one_line_says_what_is_needed() {
-    let skeleton = Skeleton::fresh("no-rt", &proved_program());
-    fs::write(skeleton.file("empty"), "").expect("a file");
-    fs::remove_file(skeleton.folder.join("tools/rt")).expect("it was there");
+    let skeleton = Skeleton::fresh("no-rt");
+    fs::remove_file(skeleton.tool("rt")).expect("it was there");
     let run = skeleton.run(&["empty"]);
     let message =
         "check-sheet: the program usm_check is not made yet, and making it takes the Rattle toolchain: \
@@ -138,16 +136,15 @@ fn without_the_toolchain_one_line_says_what_is_needed() {
     assert_eq!((run.status, run.out.as_str(), run.err.as_str()), (2, "", message));
     assert!(!skeleton.clone("target").exists());
     // Once it is made, the toolchain is not needed.
-    let made = Skeleton::made("no-rt-made", &proved_program());
-    fs::remove_file(made.folder.join("tools/rt")).expect("it was there");
+    let made = Skeleton::made("no-rt-made");
+    fs::remove_file(made.tool("rt")).expect("it was there");
     assert_eq!(made.run(&["empty"]).out, "REFUSE 1 0 0\n");
 }
 
 #[test]
 fn a_clone_that_cannot_be_written_gets_one_line() {
-    let skeleton = Skeleton::fresh("read-only", &proved_program());
-    fs::write(skeleton.file("empty"), "").expect("a file");
-    set_mode(&skeleton.folder.join("clone"), 0o555);
+    let skeleton = Skeleton::fresh("read-only");
+    set_mode(&skeleton.beside("clone"), 0o555);
     let run = told(skeleton.as_anyone().arg("empty").output().expect("check-sheet runs"));
     let message = format!(
         "check-sheet: the program usm_check is not made yet, and {} cannot be written: make it once where it can\n",
@@ -159,7 +156,7 @@ fn a_clone_that_cannot_be_written_gets_one_line() {
 
 #[test]
 fn a_made_clone_that_cannot_be_written_answers() {
-    let skeleton = Skeleton::made("read-only-made", &proved_program());
+    let skeleton = Skeleton::made("read-only-made");
     for folder in ["target/check-sheet", "target", ""] {
         set_mode(&skeleton.clone(folder), 0o555);
     }

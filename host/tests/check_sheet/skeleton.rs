@@ -1,10 +1,12 @@
 //! A clone of the repository with nothing in it but what `check-sheet` looks at, a toolchain that only
 //! pretends to prove, and a path on which there is nothing but what the script may use.
 
-use std::fs::{self, Permissions};
-use std::os::unix::fs::{symlink, PermissionsExt};
+use std::fs;
+use std::os::unix::fs::symlink;
 use std::path::{Path, PathBuf};
-use std::process::{Command, Output, Stdio};
+use std::process::{Command, Stdio};
+
+use crate::scripts::{on_path, put_script, put_tools, set_mode, told, Folder, Told};
 
 /// All that the script may start. Neither cargo nor a compiler is among them.
 const TOOLS: [&str; 22] = [
@@ -32,9 +34,6 @@ const TOOLS: [&str; 22] = [
     "xargs",
 ];
 
-/// Prints standard input: what stands in a file is then what the program says of it.
-pub const ECHO: &str = "#!/usr/bin/env bash\nexec cat\n";
-
 /// The proved program: where `USM_CHECK` says, or where `rt check` puts it.
 pub fn proved_program() -> PathBuf {
     let built = Path::new(env!("CARGO_MANIFEST_DIR")).join("../target/bin/usm_check");
@@ -43,61 +42,31 @@ pub fn proved_program() -> PathBuf {
     program
 }
 
-/// A program on the path of the tests.
-pub fn on_path(name: &str) -> Option<PathBuf> {
-    let path = std::env::var_os("PATH")?;
-    std::env::split_paths(&path).map(|folder| folder.join(name)).find(|file| file.is_file())
-}
-
-pub fn is_root() -> bool {
+fn is_root() -> bool {
     let id = Command::new("id").arg("-u").output().expect("id runs");
     id.stdout == b"0\n"
 }
 
-pub fn write_script(path: &Path, text: &str) {
-    fs::write(path, text).expect("a script");
-    set_mode(path, 0o755);
-}
-
-pub fn set_mode(path: &Path, mode: u32) {
-    fs::set_permissions(path, Permissions::from_mode(mode)).expect("permissions");
-}
-
-/// What a run said.
-#[derive(Debug, PartialEq)]
-pub struct Told {
-    pub status: i32,
-    pub out: String,
-    pub err: String,
-}
-
-pub fn told(output: Output) -> Told {
-    let text = |bytes: Vec<u8>| String::from_utf8(bytes).expect("UTF-8");
-    let status = output.status.code().expect("an exit status");
-    Told { status, out: text(output.stdout), err: text(output.stderr) }
-}
-
-/// The clone, in a folder that goes when the test ends.
+/// The clone, the files that are checked, and the path.
 pub struct Skeleton {
-    pub folder: PathBuf,
+    folder: Folder,
 }
 
 impl Drop for Skeleton {
     fn drop(&mut self) {
-        // A test may have left a folder that cannot be written.
-        for folder in ["clone", "clone/target", "clone/target/check-sheet"] {
-            let _ = fs::set_permissions(self.folder.join(folder), Permissions::from_mode(0o755));
+        // A test may have left folders that cannot be written.
+        for folder in ["", "target", "target/check-sheet"] {
+            if self.clone(folder).is_dir() {
+                set_mode(&self.clone(folder), 0o755);
+            }
         }
-        let _ = fs::remove_dir_all(&self.folder);
     }
 }
 
 impl Skeleton {
-    /// A fresh clone: nothing is made yet, and `rt` would put `program` in its place.
-    pub fn fresh(name: &str, program: &Path) -> Skeleton {
-        let folder = std::env::temp_dir().join(format!("usm-check-sheet-{}-{name}", std::process::id()));
-        let _ = fs::remove_dir_all(&folder); // there is none at first
-        let skeleton = Skeleton { folder };
+    /// A fresh clone: nothing is made yet, and `rt` would put the proved program in its place.
+    pub fn fresh(name: &str) -> Skeleton {
+        let skeleton = Skeleton { folder: Folder::new(&format!("check-sheet-{name}")) };
         let root = Path::new(env!("CARGO_MANIFEST_DIR")).join("..");
         fs::create_dir_all(skeleton.clone("host")).expect("a folder");
         for file in ["check-sheet", "crates.txt", "host/Cargo.toml"] {
@@ -108,16 +77,20 @@ impl Skeleton {
             fs::create_dir_all(&sources).expect("a folder");
             fs::write(sources.join("lib.rt"), format!("// {name}\n")).expect("a source");
         }
-        skeleton.put_tools();
-        fs::copy(program, skeleton.folder.join("program")).expect("the program");
+        put_tools(&skeleton.beside("tools"), &TOOLS);
+        if let Some(emulator) = on_path("qemu-x86_64") {
+            symlink(emulator, skeleton.tool("qemu-x86_64")).expect("a link");
+        }
+        fs::copy(proved_program(), skeleton.beside("program")).expect("the program");
         skeleton.put_rt("exit 0");
+        fs::create_dir_all(skeleton.beside("files")).expect("a folder");
+        fs::write(skeleton.file("empty"), "").expect("a file");
         skeleton
     }
 
     /// A clone whose program is made.
-    pub fn made(name: &str, program: &Path) -> Skeleton {
-        let skeleton = Skeleton::fresh(name, program);
-        fs::write(skeleton.file("empty"), "").expect("a file");
+    pub fn made(name: &str) -> Skeleton {
+        let skeleton = Skeleton::fresh(name);
         skeleton.run(&["empty"]);
         assert_eq!(skeleton.calls(), 1);
         skeleton
@@ -125,62 +98,55 @@ impl Skeleton {
 
     /// A clone whose program is this script.
     pub fn with_script(name: &str, script: &str) -> Skeleton {
-        let file = std::env::temp_dir().join(format!("usm-check-sheet-{}-{name}.sh", std::process::id()));
-        write_script(&file, script);
-        let skeleton = Skeleton::made(name, &file);
-        let _ = fs::remove_file(&file);
+        let skeleton = Skeleton::fresh(name);
+        put_script(&skeleton.beside("program"), script);
+        put_script(&skeleton.tool("uname"), "echo x86_64"); // a script takes no emulator
+        skeleton.run(&["empty"]);
         skeleton
-    }
-
-    fn put_tools(&self) {
-        let tools = self.folder.join("tools");
-        fs::create_dir_all(&tools).expect("a folder");
-        fs::create_dir_all(self.folder.join("files")).expect("a folder");
-        for name in TOOLS {
-            let tool = on_path(name).unwrap_or_else(|| panic!("{name} is not on the path"));
-            symlink(tool, tools.join(name)).expect("a link");
-        }
-        if let Some(emulator) = on_path("qemu-x86_64") {
-            symlink(emulator, tools.join("qemu-x86_64")).expect("a link");
-        }
     }
 
     /// `rt` that counts its calls, talks as the toolchain does, puts the program in its place and ends so.
     pub fn put_rt(&self, end: &str) {
-        let (calls, program) = (self.folder.join("calls"), self.folder.join("program"));
         let script = format!(
-            "#!/usr/bin/env bash\n\
-             echo \"$PWD: $*\" >>'{calls}'\n\
+            "echo \"$PWD: $*\" >>'{calls}'\n\
              for crate in records spreads blocks sheets verdicts usm_check; do\n\
                  echo \"fn $crate::first: proved\"\n\
                  echo \"rt: $crate proved (1 s)\"\n\
              done\n\
              mkdir -p target/bin && cp '{program}' target/bin/usm_check\n\
-             {end}\n",
-            calls = calls.display(),
-            program = program.display()
+             {end}",
+            calls = self.beside("calls").display(),
+            program = self.beside("program").display()
         );
-        write_script(&self.folder.join("tools/rt"), &script);
+        put_script(&self.tool("rt"), &script);
     }
 
     /// How often `rt` was asked.
     pub fn calls(&self) -> usize {
-        fs::read_to_string(self.folder.join("calls")).map_or(0, |calls| calls.lines().count())
+        fs::read_to_string(self.beside("calls")).map_or(0, |calls| calls.lines().count())
+    }
+
+    pub fn beside(&self, name: &str) -> PathBuf {
+        self.folder.0.join(name)
     }
 
     pub fn clone(&self, name: &str) -> PathBuf {
-        self.folder.join("clone").join(name)
+        self.beside("clone").join(name)
+    }
+
+    pub fn tool(&self, name: &str) -> PathBuf {
+        self.beside("tools").join(name)
     }
 
     /// A file in the folder in which the script is run.
     pub fn file(&self, name: &str) -> PathBuf {
-        self.folder.join("files").join(name)
+        self.beside("files").join(name)
     }
 
     /// `program`, with nothing on its path but the tools, in the folder of the files.
     pub fn command(&self, program: &Path) -> Command {
         let mut command = Command::new(program);
-        command.env_clear().env("PATH", self.folder.join("tools")).current_dir(self.folder.join("files"));
+        command.env_clear().env("PATH", self.beside("tools")).current_dir(self.beside("files"));
         command.stdin(Stdio::null());
         command
     }
@@ -195,7 +161,7 @@ impl Skeleton {
 
     /// A line of the shell, where `$0` is check-sheet.
     pub fn shell(&self, line: &str) -> Told {
-        let mut command = self.command(&self.folder.join("tools/bash"));
+        let mut command = self.command(&self.tool("bash"));
         told(command.args(["-c", line]).arg(self.clone("check-sheet")).output().expect("bash runs"))
     }
 

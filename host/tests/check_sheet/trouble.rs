@@ -4,11 +4,12 @@ use std::fs;
 use std::os::unix::fs::symlink;
 use std::process::Stdio;
 
-use crate::skeleton::{proved_program, set_mode, told, Skeleton, ECHO};
+use crate::scripts::{set_mode, told};
+use crate::skeleton::Skeleton;
 
 #[test]
 fn what_is_no_file_to_read_gets_a_message_and_no_verdict() {
-    let skeleton = Skeleton::made("unreadable", &proved_program());
+    let skeleton = Skeleton::made("unreadable");
     fs::create_dir(skeleton.file("folder")).expect("a folder");
     symlink("nowhere", skeleton.file("dangling")).expect("a link");
     let run = skeleton.run(&["folder", "missing", "dangling", "", "/proc/self/mem", "empty"]);
@@ -24,7 +25,7 @@ fn what_is_no_file_to_read_gets_a_message_and_no_verdict() {
 
 #[test]
 fn a_file_that_may_not_be_read_gets_a_message() {
-    let skeleton = Skeleton::made("forbidden", &proved_program());
+    let skeleton = Skeleton::made("forbidden");
     fs::copy(skeleton.file("empty"), skeleton.file("mine")).expect("a file");
     set_mode(&skeleton.file("mine"), 0o000);
     let run = told(skeleton.as_anyone().args(["mine", "empty"]).output().expect("check-sheet runs"));
@@ -34,7 +35,7 @@ fn a_file_that_may_not_be_read_gets_a_message() {
 
 #[test]
 fn what_is_no_verdict_line_is_not_printed() {
-    let skeleton = Skeleton::with_script("no-verdict", ECHO);
+    let skeleton = Skeleton::with_script("no-verdict", "exec cat");
     let broken: [&[u8]; 10] = [
         b"",
         b"\n",
@@ -59,7 +60,7 @@ fn what_is_no_verdict_line_is_not_printed() {
 
 #[test]
 fn a_program_that_fails_is_noticed() {
-    let script = "#!/usr/bin/env bash\ncat >/dev/null\necho ACCEPT 1 0\nexit 3\n";
+    let script = "cat >/dev/null\necho ACCEPT 1 0\nexit 3";
     let skeleton = Skeleton::with_script("fails", script);
     let run = skeleton.run(&["empty"]);
     assert_eq!((run.status, run.out.as_str()), (2, ""));
@@ -68,7 +69,7 @@ fn a_program_that_fails_is_noticed() {
 
 #[test]
 fn a_line_that_is_not_written_is_noticed() {
-    let skeleton = Skeleton::made("not-written", &proved_program());
+    let skeleton = Skeleton::made("not-written");
     let message = "check-sheet: empty: its line could not be written to standard output\n";
     for line in ["\"$0\" empty >/dev/full", "\"$0\" empty >&-"] {
         let run = skeleton.shell(line);
@@ -91,7 +92,7 @@ fn a_line_that_is_not_written_is_noticed() {
 
 #[test]
 fn closed_streams_do_not_change_the_verdict() {
-    let skeleton = Skeleton::made("closed", &proved_program());
+    let skeleton = Skeleton::made("closed");
     for line in ["\"$0\" empty <&- 2>&-", "\"$0\" empty 2>/dev/full"] {
         let run = skeleton.shell(line);
         assert_eq!((run.status, run.out.as_str()), (1, "REFUSE 1 0 0\n"), "{line}");

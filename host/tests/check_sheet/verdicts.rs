@@ -7,7 +7,8 @@ use std::process::Stdio;
 
 use usm::accounts::fullest;
 
-use crate::skeleton::{proved_program, told, Skeleton, Told, ECHO};
+use crate::scripts::{told, Told};
+use crate::skeleton::Skeleton;
 
 fn samples() -> PathBuf {
     Path::new(env!("CARGO_MANIFEST_DIR")).join("../samples")
@@ -15,7 +16,7 @@ fn samples() -> PathBuf {
 
 /// A clone with the proved program, and these samples beside it.
 fn with_samples(name: &str, files: &[&str]) -> Skeleton {
-    let skeleton = Skeleton::made(name, &proved_program());
+    let skeleton = Skeleton::made(name);
     for file in files {
         fs::copy(samples().join(file), skeleton.file(file)).expect("a sample");
     }
@@ -145,7 +146,7 @@ fn every_line_has_its_sentence() {
             "refused, number 99, table 7 (unknown), place 1: no sentence is known for this number",
         ),
     ];
-    let skeleton = Skeleton::with_script("sentences", ECHO);
+    let skeleton = Skeleton::with_script("sentences", "exec cat");
     let names: Vec<String> = (0..table.len()).map(|row| format!("row-{row}")).collect();
     for (name, (line, _)) in names.iter().zip(table) {
         fs::write(skeleton.file(name), format!("{line}\n")).expect("a file");
@@ -180,7 +181,7 @@ fn the_samples_have_the_lines_of_their_table() {
 
 #[test]
 fn a_file_of_any_length_is_handed_to_the_program() {
-    let skeleton = Skeleton::made("lengths", &proved_program());
+    let skeleton = Skeleton::made("lengths");
     let full = fullest().to_file().expect("a file");
     for (name, bytes) in
         [("full", full.clone()), ("longer", [&full[..], b"U"].concat()), ("far", vec![0; 1 << 20])]
@@ -190,7 +191,7 @@ fn a_file_of_any_length_is_handed_to_the_program() {
     let run = skeleton.run(&["full", "longer", "far", "empty"]);
     let lines = "full: ACCEPT 32 12800\nlonger: REFUSE 1 0 0\nfar: REFUSE 1 0 0\nempty: REFUSE 1 0 0\n";
     assert_eq!((run.status, run.out.as_str()), (1, lines));
-    let counting = Skeleton::with_script("counting", "#!/usr/bin/env bash\necho ACCEPT 0 \"$(wc -c)\"\n");
+    let counting = Skeleton::with_script("counting", "echo ACCEPT 0 \"$(wc -c)\"");
     let endless = counting.run(&["/dev/zero"]);
     assert_eq!(
         (endless.status, endless.out.as_str()),
@@ -257,7 +258,7 @@ fn it_finds_the_repository_through_links() {
         assert_eq!(told(run.expect("check-sheet runs")).out, "ACCEPT 1 0\n", "{link}");
     }
     // By its name alone, from the path.
-    symlink(skeleton.clone("check-sheet"), skeleton.folder.join("tools/sheets")).expect("a link");
+    symlink(skeleton.clone("check-sheet"), skeleton.tool("sheets")).expect("a link");
     assert_eq!(skeleton.shell("sheets box.usm").out, "ACCEPT 1 0\n");
     assert_eq!(skeleton.calls(), 1, "the program that is made already");
 }
