@@ -1,12 +1,14 @@
 //! The pages: every link leads to a file that is there and to a name that stands in it, and the bytes that
 //! docs/RULES.md shows are those of the library.
 
+#![forbid(unsafe_code)]
+
 use std::fs;
 use std::path::{Path, PathBuf};
 
 use usm::accounts::{leg, placed};
 use usm::both::BOTH;
-use usm::{claim_table, leg_table, Claim, Sheet};
+use usm::{claim_table, leg_table, Claim, Refusal, Sheet, Table};
 
 const PAGES: [&str; 3] = ["README.md", "docs/RULES.md", "docs/ARCHITECTURE.md"];
 
@@ -180,4 +182,69 @@ fn the_checks_worked_by_hand_are_right() {
     for words in ["add up to 449", "add up to 224,063", "B is 27,455"] {
         assert!(rules.contains(words), "{words}");
     }
+}
+
+/// A row of a table of fields: its bytes, its name, and the least and the greatest value.
+struct Field {
+    bytes: std::ops::Range<usize>,
+    name: String,
+    least: u64,
+    greatest: u64,
+}
+
+/// The numbers in a text, without their commas.
+fn numbers(text: &str) -> Vec<u64> {
+    let plain = text.replace(',', "");
+    plain.split(|c: char| !c.is_ascii_digit()).filter_map(|word| word.parse().ok()).collect()
+}
+
+/// The rows `| bytes | field | range |` under a heading. A range is its first two numbers, or zero.
+fn fields(heading: &str) -> Vec<Field> {
+    let rules = page("docs/RULES.md");
+    let table =
+        rules.lines().skip_while(|line| *line != heading).skip_while(|line| !line.starts_with("|---"));
+    let rows = table.skip(1).take_while(|line| line.starts_with('|'));
+    rows.map(|row| {
+        let cells: Vec<&str> = row.split('|').map(str::trim).collect();
+        let places = numbers(cells[1]);
+        let range = numbers(cells[3]);
+        let (least, greatest) = if cells[3] == "zero" { (0, 0) } else { (range[0], range[1]) };
+        let (first, last) = (places[0] as usize, *places.last().expect("a place") as usize);
+        Field { bytes: first..last + 1, name: cells[2].into(), least, greatest }
+    })
+    .collect()
+}
+
+/// Each field takes its least and its greatest value, and neither less nor more, by library and model.
+fn assert_ranges(fields: &[Field], record: &[u8], table: Table) {
+    let all: Vec<usize> = fields.iter().flat_map(|field| field.bytes.clone()).collect();
+    assert_eq!(all, (0..32).collect::<Vec<usize>>(), "every byte is in one row");
+    let refused = Err(Refusal::new(4, table as u64, 0));
+    for Field { bytes, name, least, greatest } in fields {
+        let below = least.checked_sub(1).map(|value| (value, &refused));
+        let above = Some((greatest + 1, &refused));
+        for (value, expected) in
+            [Some((*least, &Ok(1))), Some((*greatest, &Ok(1))), below, above].into_iter().flatten()
+        {
+            let mut changed = record.to_vec();
+            let digits = value.to_le_bytes();
+            if bytes.len() < 8 && value >> (8 * bytes.len()) != 0 {
+                continue; // the field has no room for it
+            }
+            for (place, at) in bytes.clone().enumerate() {
+                changed[at] = digits.get(place).copied().unwrap_or(0);
+            }
+            for calls in &BOTH {
+                assert_eq!(&(calls.check_table)(table, &changed), expected, "{name} {value}, {}", calls.name);
+            }
+        }
+    }
+}
+
+#[test]
+fn the_ranges_of_a_leg_and_of_a_claim_are_those_of_the_library() {
+    let (legs, claims) = (fields("### A leg record"), fields("### A claim record"));
+    assert_eq!((legs.len(), claims.len()), (11, 4));
+    assert_ranges(&legs, &leg_table(&[leg("L60c")]), Table::Placement);
+    assert_ranges(&claims, &claim_table(&[Claim { group: 1, margin: 1_000_000 }]), Table::Claims);
 }

@@ -2,6 +2,8 @@
 //! cannot be read or written ([`trouble`]), and how the program is made ([`making`]). Nothing is proved
 //! here: the toolchain is one that pretends, in a clone that has only what the script looks at.
 
+#![forbid(unsafe_code)]
+
 mod making;
 #[path = "../common/scripts.rs"]
 mod scripts;

@@ -1,6 +1,8 @@
 //! README's first command on a machine where something is missing: the toolchain, cargo, a C compiler. The
 //! gate and `x86-cargo` run on a path of the test's own, where stand-ins tell what they were asked.
 
+#![forbid(unsafe_code)]
+
 #[path = "../common/scripts.rs"]
 mod scripts;
 
@@ -42,7 +44,8 @@ impl Machine {
         machine.put("cargo", CARGO);
         machine.put("rustc", "echo rustc 1");
         machine.put("cc", "cat >/dev/null");
-        for name in ["cargo", "rustc", "cc"] {
+        machine.put("c++", "cat >/dev/null");
+        for name in ["cargo", "rustc", "cc", "c++"] {
             fs::copy(machine.tool(name), machine.beside("packages").join(name)).expect("a package");
         }
         let install = format!(
@@ -85,10 +88,14 @@ impl Machine {
         asked.lines().map(String::from).collect()
     }
 
-    fn gate(&self) -> Told {
-        let mut command = Command::new(self.beside("clone/.ci/run"));
+    fn run(&self, script: &str, arguments: &[&str]) -> Told {
+        let mut command = Command::new(self.beside("clone").join(script));
         command.env_clear().env("PATH", self.beside("tools")).env("TMPDIR", self.beside("temporary"));
-        let run = told(command.stdin(Stdio::null()).output().expect("the gate runs"));
+        told(command.args(arguments).stdin(Stdio::null()).output().expect("the script runs"))
+    }
+
+    fn gate(&self) -> Told {
+        let run = self.run(".ci/run", &[]);
         let left = fs::read_dir(self.beside("temporary")).expect("a folder").count();
         assert_eq!(left, 0, "nothing is left behind");
         run
@@ -123,23 +130,33 @@ fn without_the_toolchain_one_line_says_what_is_needed() {
 
 #[test]
 fn root_gets_what_is_missing_installed_before_anything_is_proved() {
-    for missing in [&["cargo", "rustc", "cc"][..], &["cc"], &["cargo"], &["rustc"]] {
-        let machine = Machine::without("root", missing);
-        let (run, asked) = (machine.gate(), machine.asked());
-        let message = format!("x86-cargo: installing {PACKAGES}\n");
-        assert_eq!(ending(&run), ("10 passed, 0 failed", 0, message.as_str()), "{missing:?}");
-        let install = format!("apt-get install -y --no-install-recommends {PACKAGES}");
-        assert_eq!(asked, ["apt-get update", &install, "rt ci", "rt staticlib usm_c"], "{missing:?}");
+    let machine = Machine::without("root", &["cargo", "rustc", "cc", "c++"]);
+    let message = format!("x86-cargo: installing {PACKAGES}\n");
+    assert_eq!(ending(&machine.gate()), ("10 passed, 0 failed", 0, message.as_str()));
+    let install = format!("apt-get install -y --no-install-recommends {PACKAGES}");
+    assert_eq!(machine.asked(), ["apt-get update", &install, "rt ci", "rt staticlib usm_c"]);
+}
+
+/// A compiler without headers and a cargo without a toolchain are as good as none.
+#[test]
+fn each_tool_that_is_missing_or_does_not_run_is_installed() {
+    for tool in ["cc", "c++", "cargo", "rustc"] {
+        let missing = Machine::without("missing", &[tool]);
+        let broken = Machine::whole("broken");
+        broken.put(tool, "exit 1");
+        for machine in [missing, broken] {
+            assert_eq!(machine.run("host/x86-cargo", &["--version"]).out, "cargo 1\n", "{tool}");
+            assert_eq!(machine.asked().len(), 2, "{tool}: update and install");
+        }
     }
 }
 
 #[test]
-fn a_compiler_without_headers_and_a_cargo_without_a_toolchain_are_missing() {
-    for (tool, broken) in [("cc", "exit 1"), ("cargo", "exit 1"), ("rustc", "exit 1")] {
-        let machine = Machine::whole("broken");
-        machine.put(tool, broken);
-        assert_eq!(machine.gate().status, 0, "{tool}");
-        assert_eq!(machine.asked()[0], "apt-get update", "{tool}");
+fn to_build_a_program_takes_no_c_plus_plus() {
+    let machine = Machine::without("build", &["c++"]);
+    for (arguments, installs) in [(["build"], false), (["run"], false), (["test"], true)] {
+        assert_eq!(machine.run("host/x86-cargo", &arguments).status, 0, "{arguments:?}");
+        assert_eq!(!machine.asked().is_empty(), installs, "{arguments:?}");
     }
 }
 
@@ -148,7 +165,7 @@ fn others_are_told_the_packages() {
     let machine = Machine::without("other", &["cargo", "cc"]);
     machine.put("id", "echo 1000");
     let message = format!(
-        "x86-cargo: cargo and a C compiler are needed; as root, on Debian: \
+        "x86-cargo: cargo and compilers of C and C++ are needed; as root, on Debian: \
          apt-get update && apt-get install -y --no-install-recommends {PACKAGES}\n"
     );
     assert_eq!(ending(&machine.gate()), (NOT_BEGUN, 2, message.as_str()));
@@ -181,7 +198,7 @@ fn an_installation_that_fails_is_told_in_one_line() {
     let machine = Machine::without("apt-does-nothing", &["cargo"]);
     machine.put("apt-get", "exit 0");
     let run = machine.gate();
-    assert!(run.err.ends_with("but cargo and a C compiler still do not run\n"), "{}", run.err);
+    assert!(run.err.ends_with("but cargo and compilers of C and C++ still do not run\n"), "{}", run.err);
     assert_eq!(ending(&run).0, NOT_BEGUN);
 
     let machine = Machine::without("no-apt", &["cargo", "apt-get"]);
