@@ -126,6 +126,15 @@ fn a_program_that_cannot_be_made_is_not_replaced_by_an_older_one() {
 }
 
 #[test]
+fn a_toolchain_that_made_nothing_is_noticed() {
+    let skeleton = Skeleton::fresh("nothing-made");
+    skeleton.put_rt("rm target/bin/usm_check");
+    let run = skeleton.run(&["empty"]);
+    assert_eq!((run.status, run.out.as_str()), (2, ""));
+    assert!(run.err.contains("usm_check could not be made (status 0 of rt)"), "{}", run.err);
+}
+
+#[test]
 fn without_the_toolchain_one_line_says_what_is_needed() {
     let skeleton = Skeleton::fresh("no-rt");
     fs::remove_file(skeleton.tool("rt")).expect("it was there");
