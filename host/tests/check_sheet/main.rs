@@ -9,5 +9,4 @@ mod making;
 #[path = "../common/scripts.rs"]
 mod scripts;
 mod skeleton;
-
 mod verdicts;
