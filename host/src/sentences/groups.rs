@@ -3,7 +3,7 @@
 use crate::numbers::{grouped, ordinal};
 use crate::reason::Reason;
 use crate::records::{Leg, OptionType, Side, MOST_CLAIMS};
-use crate::text::{date_text, leg_text, market_name, series_text, style_name};
+use crate::text::{date_text, market_name, placed_text, series_text, style_name};
 
 /// A leg of the group and its place in the placement.
 type Placed<'a> = (u64, &'a Leg);
@@ -15,7 +15,9 @@ pub fn sentence(placement: &[Leg], group: u64, reason: Reason) -> Option<String>
         Reason::NoLeg if (1..=MOST_CLAIMS as u64).contains(&group) => {
             String::from("has no leg in the placement")
         }
-        Reason::NoLeg => format!("is none: groups are numbered 1 to {MOST_CLAIMS}"),
+        Reason::NoLeg => {
+            return Some(format!("there is no group {group}: groups are numbered 1 to {MOST_CLAIMS}"))
+        }
         Reason::UnderlyingsDiffer => mixed(&legs, "underlyings", |leg| leg.underlying.to_string())?,
         Reason::StylesDiffer => mixed(&legs, "styles", |leg| style_name(leg.style).to_string())?,
         Reason::MarketsDiffer => mixed(&legs, "markets", |leg| market_name(leg.market).to_string())?,
@@ -28,17 +30,23 @@ pub fn sentence(placement: &[Leg], group: u64, reason: Reason) -> Option<String>
     Some(format!("group {group} {wrong}"))
 }
 
+/// The place of a leg, and its own text; `of_what` tells once what the place is in.
+fn named((at, leg): &Placed, of_what: &str) -> String {
+    format!("the {}{of_what} (`{}`)", ordinal(*at), placed_text(leg))
+}
+
+const RECORD: &str = " record of the placement";
+
 /// The first leg that differs from the first one.
 fn mixed(legs: &[Placed], what: &str, term: impl Fn(&Leg) -> String) -> Option<String> {
-    let (at, first) = legs.first()?;
-    let (other_at, other) = legs.iter().find(|(_, leg)| term(leg) != term(first))?;
+    let first = legs.first()?;
+    let other = legs.iter().find(|(_, leg)| term(leg) != term(first.1))?;
     Some(format!(
-        "mixes {what}: {} in the {} record of the placement, {} in the {} (`{}`)",
-        term(first),
-        ordinal(*at),
-        term(other),
-        ordinal(*other_at),
-        leg_text(other),
+        "mixes {what}: {} in {}, {} in {}",
+        term(first.1),
+        named(first, RECORD),
+        term(other.1),
+        named(other, ""),
     ))
 }
 
@@ -48,15 +56,11 @@ fn on(side: Side) -> impl Fn(&&Placed) -> bool {
 
 /// The first long whose series some leg is short.
 fn doubled(legs: &[Placed]) -> Option<String> {
-    legs.iter().filter(on(Side::Long)).find_map(|(long_at, long)| {
-        let (short_at, _) =
-            legs.iter().filter(on(Side::Short)).find(|(_, leg)| leg.series() == long.series())?;
-        Some(format!(
-            "is both long and short {}: the {} record of the placement is long and the {} is short",
-            series_text(long),
-            ordinal(*long_at),
-            ordinal(*short_at),
-        ))
+    legs.iter().filter(on(Side::Long)).find_map(|long| {
+        let mut shorts = legs.iter().filter(on(Side::Short));
+        let short = shorts.find(|(_, leg)| leg.series() == long.1.series())?;
+        let (series, long, short) = (series_text(long.1), named(long, RECORD), named(short, ""));
+        Some(format!("is both long and short {series}: {long} is long and {short} is short"))
     })
 }
 
@@ -78,13 +82,13 @@ fn unequal(legs: &[Placed], option_type: OptionType, name: &str) -> String {
 
 /// The latest short and the earliest long.
 fn outlived(legs: &[Placed]) -> Option<String> {
-    let (short_at, short) = legs.iter().filter(on(Side::Short)).max_by_key(|(_, leg)| leg.expiry)?;
-    let (long_at, long) = legs.iter().filter(on(Side::Long)).min_by_key(|(_, leg)| leg.expiry)?;
+    let short = legs.iter().filter(on(Side::Short)).max_by_key(|(_, leg)| leg.expiry)?;
+    let long = legs.iter().filter(on(Side::Long)).min_by_key(|(_, leg)| leg.expiry)?;
     Some(format!(
-        "has a short that expires on {} (the {} record of the placement), after a long that expires on {} (the {})",
-        date_text(short.expiry),
-        ordinal(*short_at),
-        date_text(long.expiry),
-        ordinal(*long_at),
+        "has a short that expires on {}, {}, after a long that expires on {}, {}",
+        date_text(short.1.expiry),
+        named(short, RECORD),
+        date_text(long.1.expiry),
+        named(long, ""),
     ))
 }

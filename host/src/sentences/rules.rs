@@ -14,11 +14,12 @@ pub fn sentence(sheet: &Sheet, refusal: &Refusal, reason: Reason) -> Option<Stri
         (Reason::GroupsMisnumbered, 3) => misnumbered(sheet, place),
         (Reason::GroupsMisnumbered, 2) => {
             let leg = sheet.placement.get(place)?;
-            let claims = count(sheet.claims.len() as u64, "claim");
+            let claims = match sheet.claims.len() {
+                0 => String::from("there is no claim"),
+                claims => format!("the last claim is for group {claims}"),
+            };
             let (text, group) = (placed_text(leg), leg.group);
-            Some(format!(
-                "the {at} record of the placement (`{text}`) is in group {group}, but there are {claims}"
-            ))
+            Some(format!("the {at} record of the placement (`{text}`) is in group {group}, but {claims}"))
         }
         (Reason::ContractsDiffer, 1) => {
             let leg = sheet.holdings.get(place)?;

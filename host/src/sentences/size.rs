@@ -19,9 +19,9 @@ pub fn sentence(file: &[u8]) -> Option<String> {
     }
     (rest > 0).then(|| {
         format!(
-            "the file has {} bytes, which is not whole blocks of {BLOCK_BYTES} ({} and {}); \
+            "the file has {}, which is not whole blocks of {BLOCK_BYTES} ({} and {}); \
              part of it may be lost",
-            grouped(file.len()),
+            count(file.len() as u64, "byte"),
             count(blocks as u64, "block"),
             count(rest as u64, "byte"),
         )

@@ -55,7 +55,7 @@ $70.000    -$500.000              ------------|
 ";
     assert_eq!(told(run(&folder, &["worksheet", "-", "1"], &file)), (0, printed.into(), String::new()));
     let (status, printed, sentence) = told(run(&folder, &["worksheet", "-", "33"], &file));
-    let none = "-: no spread, refusal 6: group 33 is none: groups are numbered 1 to 32\n";
+    let none = "-: no spread, refusal 6: there is no group 33: groups are numbered 1 to 32\n";
     assert_eq!((status, printed.as_str(), sentence.as_str()), (1, "", none));
     let (status, printed, sentence) = told(run(&folder, &["worksheet", "-", "one"], &file));
     let number = "sheet: expected the number of a group, found `one`\n";
