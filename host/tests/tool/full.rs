@@ -23,7 +23,10 @@ fn full_sheet() -> Sheet {
 fn every_group_has_its_own_margin() {
     let sheet = full_sheet();
     for claim in &sheet.claims {
-        assert_eq!(sheet.margin(u64::from(claim.group)), Ok(claim.margin), "group {}", claim.group);
+        let group = u64::from(claim.group);
+        assert_eq!(sheet.margin(group), Ok(claim.margin), "group {group}");
+        let worst = sheet.worksheet(group).map(|rows| rows.into_iter().map(|(_, net)| net).min());
+        assert_eq!(worst, Ok(Some(-claim.margin)), "group {group}");
     }
 }
 

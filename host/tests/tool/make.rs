@@ -4,8 +4,9 @@ use std::ffi::OsStr;
 use std::fs;
 use std::os::unix::ffi::OsStrExt;
 use std::os::unix::fs::symlink;
+use std::process::Command;
 
-use crate::{folder, names_in, run, run_named, told, VERTICAL};
+use crate::{answer, common, folder, names_in, run, run_named, told, VERTICAL};
 
 #[test]
 fn make_and_show_go_round() {
@@ -56,6 +57,24 @@ fn a_write_that_fails_loses_nothing() {
     );
     assert_eq!(fs::read(folder.join("p1.txt")).expect("kept"), VERTICAL.as_bytes());
     assert_eq!(names_in(&folder), ["out", "p1.txt"]);
+}
+
+#[test]
+fn a_disk_that_is_full_loses_nothing() {
+    let folder = folder("tool-disk");
+    fs::write(folder.join("p1.txt"), VERTICAL).expect("a text");
+    fs::write(folder.join("out.usm"), "mine").expect("a file");
+    // No file may grow past a block or two of 512 bytes; the sheet file has three.
+    let mut limited = Command::new("sh");
+    limited.args(["-c", "trap '' XFSZ; ulimit -f 1; exec \"$@\"", "sh"]);
+    let tool = common::program(env!("CARGO_BIN_EXE_usm_sheet"));
+    limited.arg(tool.get_program()).args(tool.get_args());
+    limited.args(["make", "p1.txt", "out.usm", "--force"]).current_dir(&folder);
+    let (status, _, message) = told(answer(limited, b""));
+    assert_eq!(status, 2, "{message}");
+    assert!(message.starts_with("sheet: out.usm: cannot be written: "), "{message}");
+    assert_eq!(fs::read(folder.join("out.usm")).expect("kept"), b"mine");
+    assert_eq!(names_in(&folder), ["out.usm", "p1.txt"]);
 }
 
 #[test]
