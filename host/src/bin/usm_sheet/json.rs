@@ -58,13 +58,3 @@ fn string(text: &str) -> String {
     }
     quoted + "\""
 }
-
-#[cfg(test)]
-mod tests {
-    use super::*;
-
-    #[test]
-    fn strings_are_those_of_json() {
-        assert_eq!(string("a\"b\\c\n\u{1b}\u{85}é"), "\"a\\\"b\\\\c\\u000a\\u001b\\u0085é\"");
-    }
-}
