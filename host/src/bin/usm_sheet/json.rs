@@ -18,7 +18,8 @@ pub fn object(name: &OsStr, found: &Found) -> String {
         Found::Unread(message) => ("not read", null(), null(), null(), string(message)),
     };
     format!(
-        "{{{},\"verdict\":\"{verdict}\",\"groups\":{groups},\"total\":{total},\"refusal\":{refusal},\"error\":{error}}}\n",
+        "{{{},\"verdict\":\"{verdict}\",\"groups\":{groups},\"total\":{total},\
+         \"refusal\":{refusal},\"error\":{error}}}\n",
         file(name)
     )
 }
