@@ -5,6 +5,8 @@
 //! a busy moment of the machine does not decide. Lent buffers are made once and not cleared
 //! between calls.
 
+#![forbid(unsafe_code)]
+
 mod crafted;
 mod inputs;
 mod rows;
