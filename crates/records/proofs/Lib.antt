@@ -7,3 +7,5 @@ pub mod OrderLaws
 pub mod PassLaws
 pub mod TableLaws
 pub mod Unique
+pub mod DateLaws
+pub mod SameLaws
