@@ -2,6 +2,14 @@
 use mathlib.Core.Bool.{Bool, true, false, cond, _&&_}
 use mathlib.Core.List.{List, [], _∷_}
 use Prim.Native.Nat.{ℕ, _+_, min, max}
+use lib.Dec.{eqb}
+
+-- whether two lists are one
+unfoldable pub same : List ℕ → List ℕ → Bool
+same [] [] = true
+same [] (y ∷ ys) = false
+same (x ∷ xs) [] = false
+same (x ∷ xs) (y ∷ ys) = eqb x y && same xs ys
 
 -- x where the test passes, and otherwise nothing
 abbrev pub only : Bool → ℕ → ℕ
