@@ -9,3 +9,4 @@ pub mod TableLaws
 pub mod Unique
 pub mod DateLaws
 pub mod SameLaws
+pub mod LineLaws

@@ -1,8 +1,8 @@
 use Rattle.sheets.specs.Links.{digitsOf}
 use mathlib.Core.Path.{refl}
 use borrow.Author.Needs.{needs}
-use Rattle.sheets.proofs.numbers.digits_of.Statement.{statement}
-use Rattle.sheets.proofs.numbers.digits_of.Tie as tie
+use Rattle.sheets.proofs.links.digits_of.Statement.{statement}
+use Rattle.sheets.proofs.links.digits_of.Tie as tie
 
 returns : tie.Need-returns
 unfolding digitsOf

@@ -2,8 +2,8 @@ use Rattle.sheets.specs.Links.{linkBelow}
 use mathlib.Core.Path.{refl}
 use native.Mathlib.Omega.{arith}
 use borrow.Author.Needs.{needs}
-use Rattle.sheets.proofs.numbers.link_below.Statement.{statement}
-use Rattle.sheets.proofs.numbers.link_below.Tie as tie
+use Rattle.sheets.proofs.links.link_below.Statement.{statement}
+use Rattle.sheets.proofs.links.link_below.Tie as tie
 
 returns : tie.Need-returns
 unfolding linkBelow

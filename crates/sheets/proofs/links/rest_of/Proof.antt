@@ -1,7 +1,7 @@
 use Rattle.sheets.specs.Links.{restOf}
 use borrow.Author.Tests.{lt-ltb, le-ltb}
-use Rattle.sheets.proofs.numbers.rest_of.Statement.{statement}
-use Rattle.sheets.proofs.numbers.rest_of.Tie as tie
+use Rattle.sheets.proofs.links.rest_of.Statement.{statement}
+use Rattle.sheets.proofs.links.rest_of.Tie as tie
 
 returns : tie.Need-returns
 unfolding restOf

@@ -8,8 +8,8 @@ use borrow.Author.Needs.{needs}
 use Rattle.sheets.specs.Numbered.{legIn, alike}
 use Rattle.sheets.specs.Links.{bucketOf, digitsOf, Ends}
 use Rattle.sheets.specs.Links as links-of
-use Rattle.sheets.proofs.numbers.link_of.Statement.{statement}
-use Rattle.sheets.proofs.numbers.link_of.Tie as tie
+use Rattle.sheets.proofs.links.link_of.Statement.{statement}
+use Rattle.sheets.proofs.links.link_of.Tie as tie
 
 abbrev Inv-loop : tie.InvT-loop
 Inv-loop leg holdings placement links link₀ digits₀ link digits =
