@@ -11,7 +11,7 @@ use native.Mathlib.Numerals.{add-one, one-add}
 use native.Mathlib.Nat.{mul-zero, mul-suc, zero-add, add-zero, one-mul, suc-add, add-assoc, mul-add, mul-assoc, pow-succ', pow-zero}
 use native.Mathlib.Omega.{arith}
 use Rattle.records.specs.Bytes.{leAt, isZero, zeroIn}
-use Rattle.records.specs.Lists.{allb}
+use Rattle.records.specs.Lists.{allOf}
 
 -- the low m bytes, and above them the other n
 pub leAt-split : (xs : List ℕ) (m n at : ℕ) → leAt xs at (m + n) ≡ leAt xs at m + 256 ^ m * leAt xs (at + m) n
@@ -40,8 +40,8 @@ sum-zero k zero (suc b) h = rw (not-zero (suc b) (omega arith), not-zero (0 + k 
 pub zero-both : (xs : List ℕ) (m n at : ℕ) → 1 ≤ 256 ^ m → eqb (leAt xs at m) 0 && eqb (leAt xs (at + m) n) 0 ≡ eqb (leAt xs at (m + n)) 0
 zero-both xs m n at h = rw (leAt-split xs m n at) (sum-zero (256 ^ m) (leAt xs at m) (leAt xs (at + m) n) h)
 
-zero-number : (xs : List ℕ) (w at : ℕ) → at + w ≤ length xs → allb isZero (take w (drop at xs)) ≡ eqb (leAt xs at w) 0
-unfolding leAt allb
+zero-number : (xs : List ℕ) (w at : ℕ) → at + w ≤ length xs → allOf isZero (take w (drop at xs)) ≡ eqb (leAt xs at w) 0
+unfolding leAt allOf
 zero-number xs zero at h = refl
 zero-number xs (suc w) at h =
     rw (drop-cons xs at 0 (omega arith), ← add-one at, zero-number xs w (at + 1) (omega arith))

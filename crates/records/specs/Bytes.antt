@@ -4,7 +4,7 @@ use mathlib.Core.Bool.{Bool}
 use mathlib.Core.List.{List}
 use lib.Dec.{eqb}
 use lib.ListN.{getD, take, drop}
-use Rattle.records.specs.Lists.{allb}
+use Rattle.records.specs.Lists.{allOf}
 
 -- the number whose bytes, lowest first, are the `width` entries of xs from `at` on; past the end of xs they are zero
 unfoldable pub leAt : List ℕ → ℕ → ℕ → ℕ
@@ -16,4 +16,4 @@ isZero x = eqb x 0
 
 -- the bytes `first` to `last` are zero
 unfoldable pub zeroIn : List ℕ → ℕ → ℕ → Bool
-zeroIn xs first last = allb isZero (take (last + 1 - first) (drop first xs))
+zeroIn xs first last = allOf isZero (take (last + 1 - first) (drop first xs))

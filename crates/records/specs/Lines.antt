@@ -2,7 +2,7 @@
 use mathlib.Core.Bool.{Bool}
 use mathlib.Core.List.{List, [], _∷_}
 use Prim.Native.Nat.{ℕ}
-use Rattle.records.specs.Lists.{only, same, sum}
+use Rattle.records.specs.Lists.{only, same, sumOf}
 use Rattle.records.specs.declared.legs.Leg.{Leg}
 
 -- 'A series is type, strike and expiry'
@@ -25,4 +25,4 @@ sameLineSide a b = same (lineSideOf a) (lineSideOf b)
 
 -- the contracts of x's line and side, summed over a table
 unfoldable pub contractsOf : Leg → List Leg → ℕ
-contractsOf x legs = sum (λ y. only (sameLineSide x y) (y .contracts .0)) legs
+contractsOf x legs = sumOf (λ y. only (sameLineSide x y) (y .contracts .0)) legs
