@@ -2,7 +2,6 @@
 use mathlib.Core.Path.{_≡_, refl, sym, ap, _∙_}
 use mathlib.Core.List.{List, [], _∷_, _++_, append-assoc, append-nil}
 use Prim.Native.Nat.{ℕ, zero, suc, _+_, _≤_, _<_}
-use native.Mathlib.Decide.{decLe}
 use native.Mathlib.Numerals.{add-one}
 use native.Mathlib.Omega.{arith}
 use lib.IntN.{ℤ, pos}
@@ -10,6 +9,7 @@ use lib.ListN.{length, take, getD, length-append}
 use lib.Seq.{take-all}
 use Rattle.records.specs.declared.legs.Leg.{Leg}
 use Rattle.spreads.specs.Spreads.{groupOf}
+use Rattle.spreads.specs.Strikes.{strikesOf, marginOf, netsOf}
 use Rattle.verdicts.specs.Printed.{decimalOf, amountOf, space, newline}
 use Rattle.verdicts.specs.TableText.{Shown, shownOf, shownIn, groupWord, groupLine, strikeLine, strikeLines, groupText, shownText}
 
@@ -81,7 +81,13 @@ lines-room strikes nets i h k =
       length-append (strikeLines (take i strikes) (take i nets)) (strikeLine (getD strikes i 0) (getD nets i (pos 0))),
     )
 
--- ---- the text of groups 1 to n
+-- ---- the text of a group, and of groups 1 to n
+
+-- where a number is its margin
+pub group-text : (g margin : ℕ) (legs : List Leg) → margin ≡ marginOf legs
+    → groupLine g margin ++ strikeLines (strikesOf legs) (netsOf legs) ≡ groupText (shownOf g legs)
+unfolding groupText
+group-text g margin legs e = rw e
 
 shown-append : (a b : List Shown) → shownText (a ++ b) ≡ shownText a ++ shownText b
 unfolding shownText
@@ -99,16 +105,5 @@ module _ (placement : List Leg) where
       sym (shown-append (shownIn n placement) (shownOf (suc n) (groupOf (suc n) placement) ∷ [])
       ∙ ap (λ (l : List ℕ). shownText (shownIn n placement) ++ l) (append-nil (groupText (shownOf (suc n) (groupOf (suc n) placement)))))
 
-  -- that of fewer groups is no longer
-  pub shown-front : (k n : ℕ) → k ≤ n → length (shownText (shownIn k placement)) ≤ length (shownText (shownIn n placement))
-  shown-front k zero h = let z : k ≡ 0 = omega arith in rw z (omega arith)
-  shown-front k (suc n) h =
-      elim (decLe k n) [
-        | yes l ↦ omega (
-          arith,
-          shown-front k n l,
-          ap length (shown-suc n),
-          length-append (shownText (shownIn n placement)) (groupText (shownOf (suc n) (groupOf (suc n) placement))),
-        )
-        | no l ↦ let e : k ≡ suc n = omega arith in rw e (omega arith)
-      ]
+  pub shown-more : (k : ℕ) → shownText (shownIn k placement) ++ groupText (shownOf (k + 1) (groupOf (k + 1) placement)) ≡ shownText (shownIn (k + 1) placement)
+  shown-more k = rw add-one (shown-suc k)

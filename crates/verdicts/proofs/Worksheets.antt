@@ -3,14 +3,16 @@ use mathlib.Core.Path.{_≡_, sym, ap, _∙_}
 use mathlib.Core.List.{List}
 use Prim.Native.Nat.{ℕ, _≤_}
 use native.Mathlib.Omega.{arith}
-use lib.ListN.{length, take}
+use lib.ListN.{length, take, length-map}
 use borrow.Author.Tests.{le-leb}
 use Rattle.records.specs.declared.refusals.Refusal.{Refusal}
 use Rattle.records.proofs.PutLaws.{put-holds, put-front}
 use Rattle.spreads.specs.Calls.{groupChecks, strikesListed, worksheetCall, listLeft}
+use Rattle.records.specs.declared.legs.Leg.{Leg}
+use Rattle.spreads.specs.Prices.{net}
 use Rattle.spreads.specs.Spreads.{groupIn, spreadChecks}
 use Rattle.spreads.specs.Steps.{Checked}
-use Rattle.spreads.specs.Strikes.{strikesOf}
+use Rattle.spreads.specs.Strikes.{strikesOf, netsOf}
 use Rattle.spreads.specs.declared.calls.Listed.{Listed}
 use Rattle.spreads.specs.declared.calls.Listed.the-variants.{Entries, Refused}
 use Rattle.spreads.proofs.Answers.{checked-first, list-in}
@@ -36,6 +38,10 @@ module _ (xs : List ℕ) (g : ℕ) (a : Answered xs g) where
 
     pub never-refused : {f : Refusal} → r ≡ Refused f → ⊥
     never-refused q = let z : _≡_ {A = ℕ} 0 1 = cc worksheet-is in omega arith
+
+pub length-nets : (legs : List Leg) → length (netsOf legs) ≡ length (strikesOf legs)
+unfolding netsOf
+length-nets legs = length-map (strikesOf legs) (net legs)
 
 -- the first n entries of a lent slice, where n were listed
 pub listed-front : {A : Type 0} (s d l : List A) (r : Listed) (n : ℕ) → l ≡ listLeft r s d → r ≡ Entries n → n ≡ length s → (n ≤ length l) × (take n l ≡ s)
