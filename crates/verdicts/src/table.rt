@@ -4,17 +4,26 @@ ghost use mathlib.Core.Path.{_≡_};
 ghost use Prim.Native.Nat.{_+_, _≤_, _/_};
 ghost use lib.ListN.{length};
 ghost use Rattle.records.specs.Tables.{legsOf};
+ghost use Rattle.records.specs.Written.{putAt};
+ghost use Rattle.blocks.specs.Reader.{judged};
+ghost use Rattle.blocks.specs.declared.reader.Reading.the-variants.{Read};
 ghost use Rattle.spreads.specs.Spreads.{groupIn};
 ghost use Rattle.spreads.specs.Strikes.{marginOf};
 ghost use Rattle.verdicts.specs.Printed.{Piece};
-ghost use Rattle.verdicts.specs.TableText.{groupLine, groupText, shownIn, shownOf, shownText, strikeLine, strikeLines};
+ghost use Rattle.verdicts.specs.TableText.{groupLine, groupText, shownIn, shownOf, shownText, strikeLine, strikeLines, tableText};
 ghost use Rattle.verdicts.specs.Steps.{Answered, ShownBy, worksheetLines};
+use crate::file::check_copied;
 use crate::line::put_amount;
 use crate::line::put_byte;
 use crate::line::put_count;
 use crate::line::put_text;
+use crate::line::refuse_line;
+use blocks::Counts;
+use blocks::Reading;
+use records::MOST_CLAIMS;
 use records::MOST_LEGS;
 use records::RECORD_BYTES;
+use sheets::Verdict;
 use spreads::Listed;
 
 // Room for every table: the longest has 8,608 bytes.
@@ -91,4 +100,32 @@ fn put_groups(placement: &[u8], claims: &[u8], out: &mut [u8; TABLE_BYTES]) -> u
         k += 1;
     }
     next
+}
+
+// The text of a file without a fault, by its tables.
+fn read_table(counts: Counts, file: &[u8], out: &mut [u8; TABLE_BYTES]) -> usize
+    requires { ⌜ judged (now file) ≡ Read counts ⌝ }
+    ensures { λ r. ⌜ Piece (now (out .entry)) 0 (tableText (now (file .entry))) r (now (out .exit)) ⌝ }
+{
+    let mut holdings = [0u8; RECORD_BYTES * MOST_LEGS];
+    let mut placement = [0u8; RECORD_BYTES * MOST_LEGS];
+    let mut claims = [0u8; RECORD_BYTES * MOST_CLAIMS];
+    let p = RECORD_BYTES * counts.placement;
+    let c = RECORD_BYTES * counts.claims;
+    match check_copied(counts, file, &mut holdings, &mut placement, &mut claims) {
+        Verdict::Refused(refusal) => refuse_line(refusal, out),
+        Verdict::Accepted(_, _) => put_groups(&placement[..p], &claims[..c], out),
+    }
+}
+
+// Puts the table of a sheet file at the start of `out` and answers its length, or the REFUSE line of a
+// refused one; the bytes past it stay. The file is read and judged once.
+pub fn table_text(file: &[u8], out: &mut [u8; TABLE_BYTES]) -> usize
+    ensures { λ r. ⌜ r ≡ length (tableText (now (file .entry))) ⌝ }
+    ensures { λ _. ⌜ now (out .exit) ≡ putAt (now (out .entry)) 0 (tableText (now (file .entry))) ⌝ }
+{
+    match blocks::judge_file(file) {
+        Reading::Refused(refusal) => refuse_line(refusal, out),
+        Reading::Read(counts) => read_table(counts, file, out),
+    }
 }
