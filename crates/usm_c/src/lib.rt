@@ -15,13 +15,13 @@ ghost use Rattle.usm_c.specs.Outcomes.{marginsWords, marginsLeft, worksh
 
 mod words;
 
+use verdicts::TABLE_BYTES;
 use words::due_words;
 use words::listed_words;
 use words::reading_words;
 use words::table_words;
 use words::verdict_words;
 use words::writing_words;
-use verdicts::TABLE_BYTES;
 
 // Refusals 1 and 4 of one table, by its number; or how many records it has.
 #[no_mangle]
