@@ -93,7 +93,7 @@ pub fn check_file(file: &[u8]) -> Result<Accepted, Refusal> {
 /// ```
 /// let mut holdings = [0; 8];
 /// let refusal = usm::read_file(&[0; 512], &mut holdings, &mut [], &mut []).unwrap_err();
-/// assert_eq!(refusal.to_string(), "block 0 is out of form: its header, its unused bytes, \
+/// assert_eq!(refusal.to_string(), "the 1st block is out of form: its header, its unused bytes, \
 ///     its place among the kinds, or a table that grows past its limit");
 /// ```
 pub fn read_file(

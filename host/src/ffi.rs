@@ -4,6 +4,8 @@
 //! An answer is four numbers, always written: 0 and the results, or refusal number, table,
 //! place and 0.
 
+#![allow(unsafe_code)] // The one module that may: it is the way to the library.
+
 /// The bytes of a line that [`file_line`] may fill.
 pub const LINE_BYTES: usize = 64;
 

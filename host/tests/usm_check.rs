@@ -1,5 +1,7 @@
 //! The proved program: the line it prints for what stands on its standard input, of any length.
 
+#![forbid(unsafe_code)]
+
 mod common;
 
 use std::fs;
