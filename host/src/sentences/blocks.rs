@@ -58,7 +58,8 @@ fn order_fault(file: &[u8], number: usize) -> Option<String> {
         }
         if before == kind && records < RECORDS_IN_BLOCK {
             return Some(format!(
-                "the block before it, of the same kind, has {}; only a kind's last block may have fewer than {RECORDS_IN_BLOCK}",
+                "the block before it, of the same kind, has {}; \
+                 only a kind's last block may have fewer than {RECORDS_IN_BLOCK}",
                 count(records as u64, "record")
             ));
         }

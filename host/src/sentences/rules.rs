@@ -35,7 +35,10 @@ pub fn sentence(sheet: &Sheet, refusal: &Refusal, reason: Reason) -> Option<Stri
         }
         (Reason::ShortNotPlaced, 2) => {
             let text = placed_text(sheet.placement.get(place)?);
-            Some(format!("the {at} record of the placement (`{text}`) is a short in no group; only longs may be unplaced"))
+            Some(format!(
+                "the {at} record of the placement (`{text}`) is a short in no group; \
+                 only longs may be unplaced"
+            ))
         }
         _ => None,
     }
@@ -44,7 +47,8 @@ pub fn sentence(sheet: &Sheet, refusal: &Refusal, reason: Reason) -> Option<Stri
 fn misnumbered(sheet: &Sheet, place: usize) -> Option<String> {
     let claim = sheet.claims.get(place)?;
     Some(format!(
-        "the {} claim (`claim {} {}`) is for group {} and should be for group {}: claims are numbered 1, 2 and so on",
+        "the {} claim (`claim {} {}`) is for group {} and should be for group {}: \
+         claims are numbered 1, 2 and so on",
         ordinal(place as u64),
         claim.group,
         claim.margin,

@@ -62,6 +62,47 @@ $70.000    -$500.000              ------------|
     assert_eq!((status, printed.as_str(), sentence.as_str()), (2, "", number));
 }
 
+/// Of the worksheet of group 1 of these legs, the lines below its head.
+fn rows(test: &str, legs: &[Leg]) -> Vec<String> {
+    let file = placed(legs, &[]).to_file().expect("a file");
+    let (status, printed, _) = told(run(&folder(test), &["worksheet", "-", "1"], &file));
+    assert_eq!(status, 0);
+    printed.lines().skip(1).map(String::from).collect()
+}
+
+#[test]
+fn bars_stand_on_both_sides_of_zero() {
+    // A short vertical, and in unit 1 a long one that gains a mill before the other loses.
+    let mill = |notation, strike| Leg { unit_size: 1, strike, ..leg(notation) };
+    let legs =
+        [mill("L10c", 10_000), mill("S10c", 10_001), leg("S50c"), leg("L60c"), leg("L30p"), leg("S25p")];
+    assert_eq!(
+        rows("tool-bars", &legs),
+        [
+            " strike        net",
+            "$10.000   $500.000                          |+++++++++++++",
+            "$10.001   $500.001                          |+++++++++++++",
+            "$25.000   $500.001                          |+++++++++++++",
+            "$30.000     $0.001                          |+",
+            "$50.000     $0.001                          |+",
+            "$60.000  -$999.999  ------------------------|",
+        ]
+    );
+}
+
+#[test]
+fn no_loss_has_no_room_for_one_and_no_net_no_bar() {
+    let butterfly = [leg("L50c"), times(2, "S60c"), leg("L70c")];
+    let bars = ["|", "|++++++++++++++++++++++++", "|"];
+    for (row, bar) in rows("tool-no-loss", &butterfly)[1..].iter().zip(bars) {
+        assert!(row.ends_with(&format!("  {bar}")), "{row}");
+    }
+    let most = |notation| Leg { unit_size: 1_000, contracts: 100_000, ..leg(notation) };
+    let amounts = [Leg { strike: 1, ..most("S50c") }, Leg { strike: 99_999_999, ..most("L50c") }];
+    let last = "$99,999.999  -$9,999,999,800,000.000  ------------------------|";
+    assert_eq!(rows("tool-no-loss", &amounts).last().map(String::as_str), Some(last));
+}
+
 #[test]
 fn a_text_has_no_margins_before_it_is_made() {
     let folder = folder("tool-margins-text");

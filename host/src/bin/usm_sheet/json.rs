@@ -18,7 +18,8 @@ pub fn object(name: &OsStr, found: &Found) -> String {
         Found::Unread(message) => ("not read", null(), null(), null(), string(message)),
     };
     format!(
-        "{{{},\"verdict\":\"{verdict}\",\"groups\":{groups},\"total\":{total},\"refusal\":{refusal},\"error\":{error}}}\n",
+        "{{{},\"verdict\":\"{verdict}\",\"groups\":{groups},\"total\":{total},\
+         \"refusal\":{refusal},\"error\":{error}}}\n",
         file(name)
     )
 }
@@ -57,14 +58,4 @@ fn string(text: &str) -> String {
         }
     }
     quoted + "\""
-}
-
-#[cfg(test)]
-mod tests {
-    use super::*;
-
-    #[test]
-    fn strings_are_those_of_json() {
-        assert_eq!(string("a\"b\\c\n\u{1b}\u{85}é"), "\"a\\\"b\\\\c\\u000a\\u001b\\u0085é\"");
-    }
 }

@@ -31,28 +31,3 @@ fn bars(rows: &[(u32, i64)]) -> Vec<String> {
     };
     rows.iter().map(|(_, net)| bar(*net)).collect()
 }
-
-#[cfg(test)]
-mod tests {
-    use super::*;
-
-    #[test]
-    fn bars_stand_on_both_sides_of_zero() {
-        let rows = [(50_000, -1_000_000), (60_000, 0), (65_000, 1), (70_000, 500_000)];
-        let lines = [
-            " strike          net",
-            "$50.000  -$1,000.000  ------------------------|",
-            "$60.000       $0.000                          |",
-            "$65.000       $0.001                          |+",
-            "$70.000     $500.000                          |++++++++++++",
-        ];
-        assert_eq!(table(&rows).lines().collect::<Vec<&str>>(), lines);
-    }
-
-    #[test]
-    fn the_greatest_amounts_have_bars() {
-        let most = usm::GREATEST_AMOUNT;
-        assert_eq!(bars(&[(1, most), (2, -most)])[0].len(), 24 + 1 + 24);
-        assert_eq!(bars(&[(1, 0), (2, 0)]), ["|", "|"]);
-    }
-}
