@@ -12,10 +12,6 @@
 
 #include "usm.h"
 
-enum { LONG = 1, SHORT = 2 };
-enum { CALL = 1, PUT = 2 };
-enum { AMERICAN = 1, LISTED = 1 };
-
 static void put(uint8_t *record, size_t at, size_t bytes, uint64_t value)
 {
     for (size_t i = 0; i < bytes; i++)
@@ -26,23 +22,23 @@ static void put(uint8_t *record, size_t at, size_t bytes, uint64_t value)
 static void leg(uint8_t *record, unsigned group, unsigned side, unsigned type, uint32_t strike)
 {
     memset(record, 0, USM_RECORD_BYTES);
-    put(record, 0, 2, group);
-    put(record, 2, 1, side);
-    put(record, 3, 1, type);
-    put(record, 4, 1, AMERICAN);
-    put(record, 5, 1, LISTED);
-    put(record, 6, 2, 100);
-    put(record, 8, 4, 7);
-    put(record, 12, 4, strike);
-    put(record, 16, 4, 20110521);
-    put(record, 20, 4, 1);
+    put(record, USM_LEG_GROUP, 2, group);
+    put(record, USM_LEG_SIDE, 1, side);
+    put(record, USM_LEG_TYPE, 1, type);
+    put(record, USM_LEG_STYLE, 1, USM_AMERICAN);
+    put(record, USM_LEG_MARKET, 1, USM_LISTED);
+    put(record, USM_LEG_UNIT_SIZE, 2, 100);
+    put(record, USM_LEG_UNDERLYING, 4, 7);
+    put(record, USM_LEG_STRIKE, 4, strike);
+    put(record, USM_LEG_EXPIRY, 4, 20110521);
+    put(record, USM_LEG_CONTRACTS, 4, 1);
 }
 
 static void claim(uint8_t *record, unsigned group, uint64_t margin)
 {
     memset(record, 0, USM_RECORD_BYTES);
-    put(record, 0, 2, group);
-    put(record, 8, 8, margin);
+    put(record, USM_CLAIM_GROUP, 2, group);
+    put(record, USM_CLAIM_MARGIN, 8, margin);
 }
 
 static int refused(const char *call, const uint64_t *answer)
@@ -71,8 +67,8 @@ struct sheet {
 static void place_iron_condor(struct sheet *sheet)
 {
     static const struct { unsigned group, side, type; uint32_t strike; } legs[4] = {
-        { 1, LONG, PUT, 50000 }, { 1, SHORT, PUT, 60000 },
-        { 2, SHORT, CALL, 65000 }, { 2, LONG, CALL, 70000 },
+        { 1, USM_LONG, USM_PUT, 50000 }, { 1, USM_SHORT, USM_PUT, 60000 },
+        { 2, USM_SHORT, USM_CALL, 65000 }, { 2, USM_LONG, USM_CALL, 70000 },
     };
     for (size_t i = 0; i < 4; i++) {
         size_t at = i * USM_RECORD_BYTES;
@@ -141,7 +137,7 @@ static int check(const struct sheet *sheet)
     return accepted("usm_check_sheet", answer);
 }
 
-/* The verdict on a file, as numbers and as the line the checker prints. */
+/* The verdict on a file, as numbers, as the line the checker prints, and the table shown to a customer. */
 static int check_file(const uint8_t *file, size_t file_len)
 {
     uint64_t answer[USM_ANSWER_NUMBERS];
@@ -151,6 +147,9 @@ static int check_file(const uint8_t *file, size_t file_len)
     uint8_t line[USM_LINE_BYTES];
     size_t line_len = usm_file_line(file, file_len, line);
     printf("file of %zu bytes: %.*s", file_len, (int)line_len, (const char *)line);
+    uint8_t text[USM_TABLE_BYTES];
+    size_t text_len = usm_file_table(file, file_len, text);
+    printf("%.*s", (int)text_len, (const char *)text);
     return 1;
 }
 
@@ -178,12 +177,12 @@ static int write_and_read_back(const struct sheet *sheet)
     return same;
 }
 
-/* An empty table is length 0 with a pointer all the same, never NULL. */
+/* An empty table is NULL and 0. */
 static int write_nothing(void)
 {
-    uint8_t none[1] = { 0 }, file[USM_BLOCK_BYTES];
+    uint8_t file[USM_BLOCK_BYTES];
     uint64_t answer[USM_ANSWER_NUMBERS];
-    usm_write_file(none, 0, none, 0, none, 0, file, sizeof file, answer);
+    usm_write_file(NULL, 0, NULL, 0, NULL, 0, file, sizeof file, answer);
     return !refused("usm_write_file", answer);
 }
 

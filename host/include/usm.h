@@ -1,7 +1,9 @@
 /*
- * Universal spread margin and the placement sheet: the C interface of libusm_c.a.
+ * Universal spread margin and the placement sheet: the C interface of libusm_c.a, for x86-64 and the
+ * System V calling convention.
  *
- * The tables, the file and the rules are those of document 01. In short:
+ * The layouts of records, blocks and files, and the rules of a spread and of a sheet, stand in
+ * ../../docs/RULES.md (docs/RULES.md of the repository). In short:
  *
  *   holdings   0 to 256 leg records of 32 bytes, group 0
  *   placement  0 to 256 leg records of 32 bytes, group 0 (not placed) or 1 to 32
@@ -12,10 +14,11 @@
  *
  * RULES FOR EVERY CALL
  *
- *   Pointers    Slices pass as a pointer and a length. No pointer may be NULL, not even
- *               with length 0: lend any valid address for an empty table. Buffers lent for
- *               writing may overlap neither each other nor an input nor `answer`. They are
- *               aligned as their C types ask.
+ *   Pointers    Slices pass as a pointer and a length. With length 0 the pointer is not looked
+ *               at, and may be NULL: an empty table, or no room, is NULL and 0, or what an empty
+ *               std::vector hands out. With any other length it points to so many entries,
+ *               aligned as the type asks. `answer`, `line` and `text` are never NULL. Buffers lent for
+ *               writing may overlap neither each other nor an input nor `answer`.
  *   Inputs      There is no other condition. Any bytes, any lengths, any numbers are
  *               answered.
  *   answer      Exactly four numbers, always written in full:
@@ -24,9 +27,18 @@
  *               table: 0 none, 1 holdings, 2 placement, 3 claims.
  *   Buffers     On a refusal nothing lent is written but `answer`. On success what lies
  *               past the output stays as it was.
+ *   Threads     No call keeps any state: the library has no variables, takes no memory and
+ *               sets no errno. Calls may be made from any number of threads at once, with
+ *               shared inputs, as long as each has an `answer` and buffers of its own.
+ *   Stack       A call needs less than USM_STACK_BYTES of stack, whatever it is given; there is
+ *               no recursion. (usm_check_file, usm_file_line and usm_file_table take about half of
+ *               it, the others a quarter at most.)
  *
- * REFUSALS, in the order in which they are looked for (blocks and records count from 0,
- * groups from 1)
+ * What each call answers and leaves in what it is lent is proved; how pointers, threads and the
+ * stack behave is tested, in C and in C++, on each build of the library.
+ *
+ * REFUSALS, in the order in which they are looked for, with table and place (blocks and records
+ * count from 0, groups from 1)
  *
  *    1  a table not whole records or over its limit; a file empty, not whole
  *       blocks or over 39; nothing to write                       0, 0
@@ -60,20 +72,87 @@
 extern "C" {
 #endif
 
+/* Sizes and limits. */
 enum {
     USM_ANSWER_NUMBERS = 4,
     USM_RECORD_BYTES = 32,
     USM_BLOCK_BYTES = 512,
+    USM_RECORDS_IN_BLOCK = 15,
+    USM_MOST_BLOCKS = 39,
     USM_MOST_LEGS = 256,
     USM_MOST_CLAIMS = 32,
     USM_LEGS_BYTES = 8192,     /* the longest holdings or placement table */
     USM_CLAIMS_BYTES = 1024,   /* the longest claims table */
     USM_LONGEST_FILE = 19968,
-    USM_LINE_BYTES = 64
+    USM_LINE_BYTES = 64,
+    USM_TABLE_BYTES = 8704,    /* the longest table has 8,608 */
+    USM_STACK_BYTES = 65536
 };
 
 /* The numbers of the tables, as `kind` in and as `table` out. */
 enum { USM_HOLDINGS = 1, USM_PLACEMENT = 2, USM_CLAIMS = 3 };
+
+/* The refusals, answer[0]; 0 is success. */
+enum {
+    USM_WRONG_SIZE = 1,
+    USM_CHECKS_DIFFER = 2,
+    USM_BLOCK_OUT_OF_FORM = 3,
+    USM_FIELD_OUT_OF_RANGE = 4,
+    USM_GROUPS_MISNUMBERED = 5,
+    USM_NO_LEG = 6,
+    USM_UNDERLYINGS_DIFFER = 7,
+    USM_STYLES_DIFFER = 8,
+    USM_MARKETS_DIFFER = 9,
+    USM_SERIES_LONG_AND_SHORT = 10,
+    USM_CALL_UNITS_UNEQUAL = 11,
+    USM_PUT_UNITS_UNEQUAL = 12,
+    USM_SHORT_OUTLIVES_LONG = 13,
+    USM_CONTRACTS_DIFFER = 14,
+    USM_SHORT_NOT_PLACED = 15,
+    USM_CLAIM_NOT_MARGIN = 16,
+    USM_NO_ROOM = 17
+};
+
+/* Where the fields of a leg record begin; each ends where the next begins, the filler with the record. */
+enum {
+    USM_LEG_GROUP = 0,         /* 2 bytes: 0 to 32; in holdings 0 only */
+    USM_LEG_SIDE = 2,          /* 1 byte: USM_LONG, USM_SHORT */
+    USM_LEG_TYPE = 3,          /* 1 byte: USM_CALL, USM_PUT */
+    USM_LEG_STYLE = 4,         /* 1 byte: USM_AMERICAN, USM_EUROPEAN */
+    USM_LEG_MARKET = 5,        /* 1 byte: USM_LISTED, USM_OTC */
+    USM_LEG_UNIT_SIZE = 6,     /* 2 bytes: 1 to 1,000 */
+    USM_LEG_UNDERLYING = 8,    /* 4 bytes: 1 to 4,294,967,295 */
+    USM_LEG_STRIKE = 12,       /* 4 bytes: 1 to 99,999,999 mills for one unit */
+    USM_LEG_EXPIRY = 16,       /* 4 bytes: YYYYMMDD, a real date, 20000101 to 20991231 */
+    USM_LEG_CONTRACTS = 20,    /* 4 bytes: 1 to 100,000 */
+    USM_LEG_FILLER = 24        /* 8 bytes: zero */
+};
+
+enum { USM_LONG = 1, USM_SHORT = 2 };
+enum { USM_CALL = 1, USM_PUT = 2 };
+enum { USM_AMERICAN = 1, USM_EUROPEAN = 2 };
+enum { USM_LISTED = 1, USM_OTC = 2 };
+
+/* Where the fields of a claim record begin; all other bytes are zero. */
+enum {
+    USM_CLAIM_GROUP = 0,       /* 2 bytes: 1 to 32 */
+    USM_CLAIM_MARGIN = 8       /* 8 bytes: 0 to USM_GREATEST_AMOUNT mills */
+};
+
+/* No net, no margin and no accepted total passes this many mills. */
+#define USM_GREATEST_AMOUNT INT64_C(2560000000000000000)
+
+/* Where the parts of a block begin; all other bytes are zero. */
+enum {
+    USM_BLOCK_MARK = 0,        /* 4 bytes: "USM1" */
+    USM_BLOCK_KIND = 4,        /* 1 byte: the table's number */
+    USM_BLOCK_COUNT = 5,       /* 1 byte: records in the block, 1 to 15 */
+    USM_BLOCK_NUMBER = 6,      /* 2 bytes: from 0 */
+    USM_BLOCK_BLOCKS = 8,      /* 2 bytes: blocks in the file */
+    USM_BLOCK_RECORDS = 16,    /* 15 places of 32 bytes */
+    USM_BLOCK_CHECK_A = 508,   /* 2 bytes: the sum of bytes 0 to 507, modulo 65,536 */
+    USM_BLOCK_CHECK_B = 510    /* 2 bytes: the sum of (508 - i) times byte i, modulo 65,536 */
+};
 
 /*
  * Looks at one table: its size (1), then its fields (4).
@@ -163,6 +242,15 @@ void usm_write_file(const uint8_t *holdings, size_t holdings_len,
  * `line` has USM_LINE_BYTES bytes.
  */
 size_t usm_file_line(const uint8_t *file, size_t file_len, uint8_t *line);
+
+/*
+ * The table that usm_table prints for this file, in text[0] and following, without a closing zero
+ * byte: for each group of an accepted sheet "GROUP group margin\n", then "strike net\n" for each
+ * distinct strike, ascending; of a refused one "REFUSE number table place\n" and nothing else.
+ *   returns  its length, newlines included, 0 for an accepted sheet without groups; bytes past it stay
+ * `text` has USM_TABLE_BYTES bytes.
+ */
+size_t usm_file_table(const uint8_t *file, size_t file_len, uint8_t *text);
 
 #ifdef __cplusplus
 }

@@ -93,7 +93,7 @@ pub fn check_file(file: &[u8]) -> Result<Accepted, Refusal> {
 /// ```
 /// let mut holdings = [0; 8];
 /// let refusal = usm::read_file(&[0; 512], &mut holdings, &mut [], &mut []).unwrap_err();
-/// assert_eq!(refusal.to_string(), "block 0 is out of form: its header, its unused bytes, \
+/// assert_eq!(refusal.to_string(), "the 1st block is out of form: its header, its unused bytes, \
 ///     its place among the kinds, or a table that grows past its limit");
 /// ```
 pub fn read_file(
@@ -141,6 +141,18 @@ pub fn file_line(file: &[u8]) -> String {
     let mut line = [0; ffi::LINE_BYTES];
     let length = ffi::file_line(file, &mut line);
     line[..length].iter().copied().map(char::from).collect()
+}
+
+/// The table `usm_table` prints for this file: of each group its margin and the net at each strike, or
+/// the line of a refusal.
+///
+/// ```
+/// assert_eq!(usm::file_table(&[]), "REFUSE 1 0 0\n");
+/// ```
+pub fn file_table(file: &[u8]) -> String {
+    let mut text = [0; ffi::TABLE_BYTES];
+    let length = ffi::file_table(file, &mut text);
+    String::from_utf8_lossy(&text[..length]).into_owned()
 }
 
 fn accepted([groups, total, _]: [u64; 3]) -> Accepted {

@@ -1,32 +1,52 @@
 //! Universal spread margin and the placement sheet, for Rust callers.
 //!
-//! The calls are those of the proved library, `libusm_c.a`; what they promise stands in
-//! document 01 and in `include/usm.h`. Work on Rust values with [`Sheet`], or on the bytes
-//! of tables and files with the functions beside it. Every input is answered: with a
-//! result, or with the first [`Refusal`] in document 01's order.
+//! The calls are those of the proved library, `libusm_c.a`; the rules they keep stand in
+//! [docs/RULES.md](../../../../docs/RULES.md) of the repository, and what each call promises in
+//! `include/usm.h`. Work on Rust values with [`Sheet`], or on the bytes of tables and files with the
+//! functions beside it. Every input is answered: with a result, or with the first [`Refusal`] in the
+//! rules' order, whose [`Reason`] names it. [`sentences`] says for people what is wrong, and [`text`]
+//! reads and writes sheets as text.
 //!
-//! [`model`] is a second implementation, kept for the differential tests and the benchmark,
-//! which find the two side by side in [`both`]. [`accounts`], [`fields`], [`block`] and [`lent`]
-//! serve the tests and the samples, [`program`] the programs beside this library.
+//! No call keeps any state: all may be made from any number of threads at once.
 
-pub mod accounts;
-pub mod block;
-pub mod both;
-pub mod ffi;
-pub mod fields;
-pub mod lent;
-pub mod model;
-pub mod program;
+#![warn(missing_docs)]
+#![deny(unsafe_code)]
+
+pub mod numbers;
+pub mod sentences;
 pub mod text;
 
+// For the tests, the samples, the benchmark and the programs beside this library; no part of what it
+// promises. `model` is the second implementation, `both` holds the two side by side.
+#[doc(hidden)]
+pub mod accounts;
+#[doc(hidden)]
+pub mod block;
+#[doc(hidden)]
+pub mod both;
+#[doc(hidden)]
+pub mod ffi;
+#[doc(hidden)]
+pub mod fields;
+#[doc(hidden)]
+pub mod lent;
+#[doc(hidden)]
+pub mod model;
+#[doc(hidden)]
+pub mod program;
+
 mod calls;
+mod reason;
 mod records;
 mod refusal;
 mod sheet;
 
+pub use block::{BLOCK_BYTES, LONGEST_FILE, MOST_BLOCKS};
 pub use calls::{
-    check_file, check_sheet, check_table, file_line, margin, margins, read_file, worksheet, write_file,
+    check_file, check_sheet, check_table, file_line, file_table, margin, margins, read_file, worksheet,
+    write_file,
 };
+pub use reason::Reason;
 pub use records::{
     is_expiry, Claim, Leg, Line, Market, OptionType, Series, Side, Style, Table, GREATEST_AMOUNT,
     GREATEST_STRIKE, GREATEST_UNIT_SIZE, MOST_CLAIMS, MOST_CONTRACTS, MOST_LEGS, RECORD_BYTES,

@@ -10,7 +10,7 @@ use crate::refusal::{Accepted, Refusal};
 /// A vertical of document 01's bench (P1), long the 60 call and short the 50:
 ///
 /// ```
-/// use usm::{Accepted, Claim, Leg, Market, OptionType, Sheet, Side, Style};
+/// use usm::{Accepted, Claim, Leg, Market, OptionType, Reason, Sheet, Side, Style};
 ///
 /// let long = Leg {
 ///     group: 1,
@@ -36,21 +36,31 @@ use crate::refusal::{Accepted, Refusal};
 ///
 /// sheet.claims[0].margin -= 1;
 /// let refusal = sheet.check().unwrap_err();
-/// assert_eq!(refusal.to_string(), "the claim of group 1 is not the group's margin");
+/// assert_eq!(refusal.reason(), Some(Reason::ClaimNotMargin));
+/// assert_eq!(
+///     usm::sentences::of_sheet(&sheet, &refusal),
+///     "group 1 claims $999.999 (999999 mills); its margin is $1,000.000 (1000000 mills)"
+/// );
 /// # Ok::<(), usm::Refusal>(())
 /// ```
 #[derive(Clone, Debug, Default, PartialEq, Eq)]
 pub struct Sheet {
+    /// What the account holds; every group is 0.
     pub holdings: Vec<Leg>,
+    /// The same contracts, each leg in its group or in none.
     pub placement: Vec<Leg>,
+    /// The margins claimed for groups 1, 2 and so on.
     pub claims: Vec<Claim>,
 }
 
 /// The three tables of a sheet as the bytes that the calls take.
 #[derive(Clone, Debug)]
 pub struct Tables {
+    /// The records of the holdings.
     pub holdings: Vec<u8>,
+    /// The records of the placement.
     pub placement: Vec<u8>,
+    /// The claims.
     pub claims: Vec<u8>,
 }
 

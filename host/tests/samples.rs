@@ -1,5 +1,7 @@
 //! The committed samples are exactly what the program makes, and print what their table says.
 
+#![forbid(unsafe_code)]
+
 mod common;
 
 use std::collections::BTreeMap;

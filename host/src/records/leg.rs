@@ -4,27 +4,39 @@ use super::{
     is_expiry, u16_at, u32_at, GREATEST_STRIKE, GREATEST_UNIT_SIZE, MOST_CLAIMS, MOST_CONTRACTS, RECORD_BYTES,
 };
 
+/// Which way a position is held.
 #[derive(Clone, Copy, Debug, PartialEq, Eq, Hash)]
 pub enum Side {
+    /// Bought: it has value at exercise.
     Long = 1,
+    /// Written: it owes that value.
     Short = 2,
 }
 
+/// What an option gives the right to do at its strike.
 #[derive(Clone, Copy, Debug, PartialEq, Eq, Hash)]
 pub enum OptionType {
+    /// To buy.
     Call = 1,
+    /// To sell.
     Put = 2,
 }
 
+/// When an option may be exercised.
 #[derive(Clone, Copy, Debug, PartialEq, Eq, Hash)]
 pub enum Style {
+    /// At any time up to its expiry.
     American = 1,
+    /// At its expiry only.
     European = 2,
 }
 
+/// Where an option is traded.
 #[derive(Clone, Copy, Debug, PartialEq, Eq, Hash)]
 pub enum Market {
+    /// On an exchange.
     Listed = 1,
+    /// Over the counter.
     Otc = 2,
 }
 
@@ -36,17 +48,23 @@ pub enum Market {
 pub struct Leg {
     /// 1 to 32; 0 in holdings, and for a leg that is not placed.
     pub group: u16,
+    /// Long or short.
     pub side: Side,
+    /// Call or put.
     pub option_type: OptionType,
+    /// American or European.
     pub style: Style,
+    /// Listed or OTC.
     pub market: Market,
-    /// Units of the underlying in one contract.
+    /// Units of the underlying in one contract, 1 to 1,000.
     pub unit_size: u16,
+    /// The underlying's number, from 1.
     pub underlying: u32,
-    /// In mills for one unit of the underlying.
+    /// In mills for one unit of the underlying, 1 to 99,999,999.
     pub strike: u32,
-    /// YYYYMMDD as a number.
+    /// YYYYMMDD as a number, a real date of 2000 to 2099.
     pub expiry: u32,
+    /// 1 to 100,000.
     pub contracts: u32,
 }
 
@@ -56,20 +74,29 @@ pub type Series = (OptionType, u32, u32);
 /// Everything that makes two positions the same instrument.
 #[derive(Clone, Copy, Debug, PartialEq, Eq, Hash)]
 pub struct Line {
+    /// Call or put.
     pub option_type: OptionType,
+    /// American or European.
     pub style: Style,
+    /// Listed or OTC.
     pub market: Market,
+    /// Units of the underlying in one contract.
     pub unit_size: u16,
+    /// The underlying's number.
     pub underlying: u32,
+    /// In mills for one unit of the underlying.
     pub strike: u32,
+    /// YYYYMMDD as a number.
     pub expiry: u32,
 }
 
 impl Leg {
+    /// The series it is of.
     pub fn series(&self) -> Series {
         (self.option_type, self.strike, self.expiry)
     }
 
+    /// The line it is of.
     pub fn line(&self) -> Line {
         Line {
             option_type: self.option_type,

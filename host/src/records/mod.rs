@@ -26,8 +26,11 @@ pub const MOST_CONTRACTS: u32 = 100_000;
 /// The three tables of a sheet, by document 01's numbers.
 #[derive(Clone, Copy, Debug, PartialEq, Eq, Hash)]
 pub enum Table {
+    /// What the account holds.
     Holdings = 1,
+    /// How it stands in groups.
     Placement = 2,
+    /// The margins claimed for the groups.
     Claims = 3,
 }
 

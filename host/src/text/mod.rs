@@ -1,14 +1,20 @@
 //! A sheet as readable text. [`parse`] reads what [`show`] prints, to the same sheet.
 
+mod errors;
+mod escape;
+mod line;
 mod names;
 mod parse;
 mod record;
 mod show;
 mod words;
 
+pub use errors::{TextError, TextErrors};
+pub use escape::escaped;
+pub(crate) use line::{date_text, leg_text, market_name, placed_text, raw_text, series_text, style_name};
+pub(crate) use parse::is_section;
 pub use parse::parse;
 pub use show::show;
-pub use words::TextError;
 
 /// The text format, as the help of `usm_sheet` prints it.
 pub const FORMAT: &str = "\

@@ -1,7 +1,8 @@
 //! From text to a sheet, with errors that say where and what was expected.
 
+use super::errors::{TextError, TextErrors};
 use super::record::{claim, holding, placed_leg};
-use super::words::{TextError, Words};
+use super::words::Words;
 use crate::records::{MOST_CLAIMS, MOST_LEGS};
 use crate::sheet::Sheet;
 
@@ -13,38 +14,44 @@ enum Section {
     Claims,
 }
 
-/// The sheet a text describes, in the format [`super::FORMAT`] tells of.
+/// What has been read so far.
+struct Reading {
+    section: Section,
+    /// Whether it has been told that a record stands before the first section.
+    told_of_start: bool,
+    sheet: Sheet,
+}
+
+/// The sheet a text describes, in the format [`super::FORMAT`] tells of, or all that is wrong with it.
+/// A byte order mark before the text is skipped.
 ///
 /// ```
-/// let error = usm::text::parse("holdings\n  long 10 call 60.0001").unwrap_err();
+/// let errors = usm::text::parse("holdings\n  long 10 call 60.0001").unwrap_err();
 /// assert_eq!(
-///     error.to_string(),
-///     "line 2, column 16: expected a strike in dollars from 0.001 to 99999.999, found `60.0001`"
+///     errors.to_string(),
+///     "line 2, column 16: expected a strike in dollars from 0.001 to 99999.999 with up to three \
+///      decimals, found `60.0001`"
 /// );
 /// ```
-pub fn parse(text: &str) -> Result<Sheet, TextError> {
-    let mut sheet = Sheet::default();
-    let mut section = Section::Start;
+pub fn parse(text: &str) -> Result<Sheet, TextErrors> {
+    let mut reading = Reading { section: Section::Start, told_of_start: false, sheet: Sheet::default() };
+    let mut errors = TextErrors::default();
+    let text = text.strip_prefix('\u{FEFF}').unwrap_or(text);
     for (index, line) in text.lines().enumerate() {
-        let mut words = Words::of(index + 1, line);
-        let first = match words.peek() {
-            Some(first) => first,
-            None => continue,
-        };
-        if let Some(next) = section_named(first) {
-            if next <= section {
-                return Err(
-                    words.error("each section at most once, in the order holdings, placement, claims")
-                );
-            }
-            section = next;
-            words.skip();
-        } else {
-            record(section, &mut words, &mut sheet)?;
+        if let Err(error) = reading.line(Words::of(index + 1, line)) {
+            errors.add(error);
         }
-        words.end()?;
     }
-    Ok(sheet)
+    if errors.listed().is_empty() {
+        Ok(reading.sheet)
+    } else {
+        Err(errors)
+    }
+}
+
+/// Whether the word opens a section.
+pub fn is_section(word: &str) -> bool {
+    section_named(word).is_some()
 }
 
 fn section_named(word: &str) -> Option<Section> {
@@ -56,32 +63,66 @@ fn section_named(word: &str) -> Option<Section> {
     }
 }
 
-/// Reads a line of a section, if its table may have one more.
-fn record(section: Section, words: &mut Words, sheet: &mut Sheet) -> Result<(), TextError> {
-    let room = |records: usize, most: usize, what: &str| {
-        if records < most {
-            Ok(())
-        } else {
-            Err(words.error(&format!("no more than {most} {what}")))
+impl Reading {
+    fn line(&mut self, mut words: Words) -> Result<(), TextError> {
+        let first = match words.peek() {
+            Some(first) => first,
+            None => return Ok(()),
+        };
+        match section_named(first) {
+            Some(next) => self.open(next, &mut words)?,
+            None if self.section == Section::Start => return self.before_sections(&words),
+            None => self.record(&mut words)?,
         }
-    };
-    match section {
-        Section::Start => Err(words.error("the section `holdings`, `placement` or `claims`")),
-        Section::Holdings => {
-            room(sheet.holdings.len(), MOST_LEGS, "holdings")?;
-            sheet.holdings.push(holding(words)?);
-            Ok(())
+        words.end()
+    }
+
+    /// What follows is read as this section's records even where it should not stand here, so that one
+    /// misplaced word is one error.
+    fn open(&mut self, next: Section, words: &mut Words) -> Result<(), TextError> {
+        let in_order = next > self.section;
+        self.section = next;
+        if !in_order {
+            return Err(words.error("each section at most once, in the order holdings, placement, claims"));
         }
-        Section::Placement => {
-            room(sheet.placement.len(), MOST_LEGS, "records in the placement")?;
-            sheet.placement.push(placed_leg(words)?);
-            Ok(())
+        words.skip();
+        Ok(())
+    }
+
+    /// A text that is no sheet at all is told so once.
+    fn before_sections(&mut self, words: &Words) -> Result<(), TextError> {
+        if self.told_of_start {
+            return Ok(());
         }
-        Section::Claims => {
-            room(sheet.claims.len(), MOST_CLAIMS, "claims")?;
-            sheet.claims.push(claim(words)?);
-            Ok(())
+        self.told_of_start = true;
+        Err(words.error("the section `holdings`, `placement` or `claims`"))
+    }
+
+    fn record(&mut self, words: &mut Words) -> Result<(), TextError> {
+        let Sheet { holdings, placement, claims } = &mut self.sheet;
+        match self.section {
+            Section::Start | Section::Holdings => add(holdings, MOST_LEGS, "holdings", words, holding),
+            Section::Placement => add(placement, MOST_LEGS, "records in the placement", words, placed_leg),
+            Section::Claims => add(claims, MOST_CLAIMS, "claims", words, claim),
         }
+    }
+}
+
+/// Reads a record of a table. The first one past the table's limit is an error, and those behind it are
+/// none of their own.
+fn add<T>(
+    table: &mut Vec<T>,
+    most: usize,
+    what: &str,
+    words: &mut Words,
+    read: fn(&mut Words) -> Result<T, TextError>,
+) -> Result<(), TextError> {
+    let too_many = words.error(&format!("no more than {most} {what}"));
+    table.push(read(words)?);
+    if table.len() == most + 1 {
+        Err(too_many)
+    } else {
+        Ok(())
     }
 }
 
@@ -138,6 +179,8 @@ mod tests {
             error_of(&format!("{full}{LEG}")),
             "line 258, column 1: expected no more than 256 holdings, found `long`"
         );
+        let errors = parse(&format!("{full}{LEG}\n{LEG}\n{LEG}")).unwrap_err();
+        assert_eq!((errors.listed().len(), errors.unlisted()), (1, 0));
     }
 
     #[test]
@@ -146,5 +189,49 @@ mod tests {
         assert_eq!(sheet.placement.len(), 1);
         assert_eq!(sheet.placement[0].group, 0);
         assert_eq!(parse(""), Ok(Sheet::default()));
+    }
+
+    #[test]
+    fn all_errors_are_told_one_a_line() {
+        let text = format!("holdings\n lang 1\n{LEG}\nplacement\nclaims 1\nclaim 0 0\nplacement\n{LEG}");
+        assert_eq!(
+            error_of(&text),
+            "line 2, column 2: expected `long` or `short`, or the section `placement` or `claims`, found `lang`\n\
+             line 5, column 8: expected the end of the line, found `1`\n\
+             line 6, column 7: expected a group from 1 to 32, found `0`\n\
+             line 7, column 1: expected each section at most once, in the order holdings, placement, \
+             claims, found `placement`\n\
+             line 8, column 1: expected `group` or `unplaced`, or the section `claims`, found `long`"
+        );
+    }
+
+    #[test]
+    fn errors_behind_the_twentieth_are_counted() {
+        let errors = parse(&format!("holdings\n{}", "short\n".repeat(20))).unwrap_err();
+        assert_eq!((errors.listed().len(), errors.unlisted()), (20, 0));
+        let last = |count: usize| {
+            let text = format!("holdings\n{}", "short\n".repeat(count));
+            error_of(&text).lines().last().map(String::from)
+        };
+        assert_eq!(last(21).as_deref(), Some("and 1 more error"));
+        assert_eq!(last(57).as_deref(), Some("and 37 more errors"));
+    }
+
+    #[test]
+    fn what_is_no_sheet_at_all_is_told_so_once() {
+        assert_eq!(
+            error_of("once upon\na time\nthere was\n"),
+            "line 1, column 1: expected the section `holdings`, `placement` or `claims`, found `once`"
+        );
+    }
+
+    #[test]
+    fn a_byte_order_mark_is_skipped_and_control_characters_are_escaped() {
+        assert_eq!(parse("\u{FEFF}holdings\n"), Ok(Sheet::default()));
+        assert_eq!(
+            error_of("\u{FEFF}\u{1b}[2Jholdings"),
+            "line 1, column 1: expected the section `holdings`, `placement` or `claims`, \
+             found `\\u{1b}[2Jholdings`"
+        );
     }
 }

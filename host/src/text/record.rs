@@ -1,7 +1,8 @@
 //! The words of one record: a leg or a claim.
 
+use super::errors::TextError;
 use super::names::{MARKETS, SIDES, STYLES, TYPES};
-use super::words::{digits, TextError, Words};
+use super::words::{digits, Words};
 use crate::records::{
     is_expiry, Claim, Leg, GREATEST_AMOUNT, GREATEST_STRIKE, GREATEST_UNIT_SIZE, MOST_CLAIMS, MOST_CONTRACTS,
 };
@@ -32,7 +33,8 @@ fn leg(group: u16, or_else: &str, words: &mut Words) -> Result<Leg, TextError> {
     let side = words.choose(SIDES, or_else)?;
     let contracts = words.number("contracts", 1..=MOST_CONTRACTS)?;
     let option_type = words.choose(TYPES, "")?;
-    let strike = words.value("a strike in dollars from 0.001 to 99999.999", mills)?;
+    let strike =
+        words.value("a strike in dollars from 0.001 to 99999.999 with up to three decimals", mills)?;
     let expiry = words.value("an expiry YYYY-MM-DD, a real date from 2000-01-01 to 2099-12-31", date)?;
     words.word("unit")?;
     let unit_size = words.number("a unit size", 1..=GREATEST_UNIT_SIZE)?;

@@ -2,6 +2,7 @@
 
 use std::fmt::Write;
 
+use super::line::{date_text, place_text, strike_text};
 use super::names::{name_of, MARKETS, SIDES, STYLES, TYPES};
 use crate::records::Leg;
 use crate::sheet::Sheet;
@@ -21,11 +22,7 @@ pub fn show(sheet: &Sheet) -> String {
     }
     text.push_str("\nplacement\n");
     for leg in &sheet.placement {
-        let place = match leg.group {
-            0 => String::from("unplaced"),
-            group => format!("group {group}"),
-        };
-        line(&mut text, format!("{place:<8}  {}", leg_words(leg)));
+        line(&mut text, format!("{:<8}  {}", place_text(leg.group), leg_words(leg)));
     }
     text.push_str("\nclaims\n");
     for claim in &sheet.claims {
@@ -38,17 +35,15 @@ fn line(text: &mut String, words: String) {
     writeln!(text, "  {words}").expect("a string takes all text");
 }
 
-fn leg_words(leg: &Leg) -> String {
+/// The words of a leg, padded so that those of one table stand in columns.
+pub fn leg_words(leg: &Leg) -> String {
     format!(
-        "{:<5} {} {:<4} {}.{:03} {:04}-{:02}-{:02} unit {} underlying {} {} {}",
+        "{:<5} {} {:<4} {} {} unit {} underlying {} {} {}",
         name_of(leg.side, SIDES),
         leg.contracts,
         name_of(leg.option_type, TYPES),
-        leg.strike / 1_000,
-        leg.strike % 1_000,
-        leg.expiry / 10_000,
-        leg.expiry / 100 % 100,
-        leg.expiry % 100,
+        strike_text(leg.strike),
+        date_text(leg.expiry),
         leg.unit_size,
         leg.underlying,
         name_of(leg.style, STYLES),

@@ -1,32 +1,10 @@
-//! A line of text as words, and the error that tells where one is wrong.
+//! A line of text as words.
 
-use std::error::Error;
-use std::fmt::{self, Display};
+use std::fmt::Display;
 use std::ops::RangeInclusive;
 
+use super::errors::TextError;
 use super::names::Names;
-
-/// Where a text is no sheet, and what was expected there. Lines and columns count from 1.
-#[derive(Clone, Debug, PartialEq, Eq)]
-pub struct TextError {
-    pub line: usize,
-    pub column: usize,
-    pub expected: String,
-    /// The word found, or none at the end of a line.
-    pub found: Option<String>,
-}
-
-impl Display for TextError {
-    fn fmt(&self, f: &mut fmt::Formatter<'_>) -> fmt::Result {
-        write!(f, "line {}, column {}: expected {}, ", self.line, self.column, self.expected)?;
-        match &self.found {
-            Some(word) => write!(f, "found `{word}`"),
-            None => write!(f, "found the end of the line"),
-        }
-    }
-}
-
-impl Error for TextError {}
 
 /// The words of one line, with their columns.
 pub struct Words<'a> {

@@ -1,6 +1,8 @@
 //! "Accounts on the bench" and "Errors that look right" of document 01, run against the
 //! library and the model alike.
 
+#![forbid(unsafe_code)]
+
 mod bench;
 mod files;
 mod limits;

@@ -2,6 +2,8 @@
 //! through the library and through the independent model. Both say what `crates/bench/stdout` has,
 //! which the gate compares with what the bench itself prints.
 
+#![forbid(unsafe_code)]
+
 mod answers;
 mod memory;
 mod script;

@@ -4,6 +4,8 @@
 //! seed (1 unless said). A failure names both, the family and the case; `USM_ONLY` tries a
 //! single case again.
 
+#![forbid(unsafe_code)]
+
 mod cases;
 mod compare;
 mod faults;

@@ -1,11 +1,14 @@
 //! Writes the samples: small sheet files named after what they show, each with the text it
 //! is made from where text can make it.
 
+#![forbid(unsafe_code)]
+
 mod accepted;
 mod changes;
 mod list;
 mod refused;
 
+use std::ffi::OsString;
 use std::path::Path;
 use std::process::ExitCode;
 
@@ -19,10 +22,13 @@ usage: usm_samples FOLDER [--force]
 ";
 
 fn main() -> ExitCode {
-    program::run("usm_samples", |arguments| match arguments {
-        [folder] if !folder.starts_with("--") => write_all(folder.as_ref(), false),
-        [folder, "--force"] => write_all(folder.as_ref(), true),
-        _ => Err(format!("the command was not understood\n{USAGE}")),
+    program::run("usm_samples", |arguments| {
+        let forced = |word: &OsString| word == "--force";
+        match arguments.as_slice() {
+            [folder] if !forced(folder) => write_all(folder.as_ref(), false),
+            [folder, force] if !forced(folder) && forced(force) => write_all(folder.as_ref(), true),
+            _ => Err(format!("the command was not understood\n{USAGE}")),
+        }
     })
 }
 

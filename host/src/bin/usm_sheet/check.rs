@@ -1,0 +1,113 @@
+//! The verdicts on sheet files: a line each for programs, sentences and a summary for people.
+
+use std::ffi::{OsStr, OsString};
+use std::process::ExitCode;
+
+use usm::numbers::{dollars, grouped};
+use usm::program::shown;
+use usm::{check_file, sentences, Accepted, Refusal, LONGEST_FILE};
+
+use crate::input::read_into;
+use crate::json;
+use crate::output::Output;
+
+/// What became of one file.
+pub enum Found {
+    Accepted(Accepted),
+    Refused(Refusal, String),
+    /// With the message that tells why it could not be read.
+    Unread(String),
+}
+
+#[derive(Default)]
+struct Tally {
+    accepted: usize,
+    refused: usize,
+    unread: usize,
+}
+
+/// Checks every file, also behind one that could not be read.
+pub fn check(names: &[OsString], json: bool) -> Result<ExitCode, String> {
+    let mut output = Output::new();
+    let mut tally = Tally::default();
+    let mut file = Vec::with_capacity(LONGEST_FILE + 1);
+    for name in names {
+        let found = judge(&mut file, name);
+        tally.count(&found);
+        if json {
+            output.print(json::object(name, &found).as_bytes())?;
+        } else {
+            report(&mut output, name, names.len() > 1, &found)?;
+        }
+        if let Found::Unread(message) = &found {
+            output.tell(&format!("sheet: {message}"))?;
+        }
+    }
+    if names.len() > 1 {
+        output.tell(&tally.summary())?;
+    }
+    output.end()?;
+    Ok(ExitCode::from(tally.status()))
+}
+
+fn judge(file: &mut Vec<u8>, name: &OsStr) -> Found {
+    if let Err(message) = read_into(file, name, LONGEST_FILE) {
+        return Found::Unread(message);
+    }
+    match check_file(file) {
+        Ok(accepted) => Found::Accepted(accepted),
+        Err(refusal) => Found::Refused(refusal, sentences::of_file(file, &refusal)),
+    }
+}
+
+/// The line and the sentence of one file. Of several, those that are accepted need no sentence.
+fn report(output: &mut Output, name: &OsStr, several: bool, found: &Found) -> Result<(), String> {
+    let name = shown(name);
+    let before = if several { format!("{name}: ") } else { String::new() };
+    match found {
+        Found::Accepted(accepted) => {
+            output.print(format!("{before}{}", accepted.line()).as_bytes())?;
+            let Accepted { groups, total } = accepted;
+            let groups = if *groups == 1 { String::from("1 group") } else { format!("{groups} groups") };
+            let sentence =
+                format!("{name}: accepted: {groups}, total margin {} ({total} mills)", dollars(*total));
+            if several {
+                Ok(())
+            } else {
+                output.tell(&sentence)
+            }
+        }
+        Found::Refused(refusal, sentence) => {
+            output.print(format!("{before}{}", refusal.line()).as_bytes())?;
+            output.tell(&format!("{name}: refused: {sentence}"))
+        }
+        Found::Unread(_) => Ok(()),
+    }
+}
+
+impl Tally {
+    fn count(&mut self, found: &Found) {
+        match found {
+            Found::Accepted(_) => self.accepted += 1,
+            Found::Refused(..) => self.refused += 1,
+            Found::Unread(_) => self.unread += 1,
+        }
+    }
+
+    /// Files that could not be read are named where there are some.
+    fn summary(&self) -> String {
+        let unread = match self.unread {
+            0 => String::new(),
+            unread => format!(", {} not read", grouped(unread)),
+        };
+        format!("{} accepted, {} refused{unread}", grouped(self.accepted), grouped(self.refused))
+    }
+
+    fn status(&self) -> u8 {
+        match (self.unread, self.refused) {
+            (0, 0) => 0,
+            (0, _) => 1,
+            _ => 2,
+        }
+    }
+}

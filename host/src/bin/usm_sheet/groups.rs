@@ -1,0 +1,74 @@
+//! The margins of a sheet's groups, and the worksheet of one.
+
+use std::collections::BTreeSet;
+use std::ffi::OsStr;
+use std::process::ExitCode;
+
+use usm::numbers::dollars;
+use usm::program::{self, shown};
+use usm::{sentences, Refusal, Sheet};
+
+use crate::input::sheet;
+use crate::output::Output;
+use crate::plot;
+
+/// The margin of each group that is placed or claimed; of a group that is no spread, why.
+pub fn margins(name: &OsStr) -> Result<ExitCode, String> {
+    let sheet = sheet(name)?;
+    let margins: Vec<(u64, Result<i64, Refusal>)> =
+        groups(&sheet).into_iter().map(|group| (group, sheet.margin(group))).collect();
+    if margins.is_empty() {
+        program::tell(&format!("{}: no group is placed or claimed", shown(name)));
+    }
+    let known = || margins.iter().filter_map(|(_, margin)| margin.as_ref().ok());
+    let mills_width = known().map(|margin| margin.to_string().len()).max().unwrap_or(0);
+    let dollars_width = known().map(|margin| dollars(*margin).len()).max().unwrap_or(0);
+    let mut output = Output::new();
+    for (group, margin) in &margins {
+        let margin = match margin {
+            Ok(margin) => {
+                format!("{margin:>mills_width$} mills  {:>dollars_width$}", dollars(*margin))
+            }
+            Err(refusal) => no_spread(&sheet, refusal),
+        };
+        output.print(format!("group {group:>2}  {margin}\n").as_bytes())?;
+    }
+    output.end()?;
+    Ok(status(margins.iter().all(|(_, margin)| margin.is_ok())))
+}
+
+/// The groups of the placement and of the claims, ascending.
+fn groups(sheet: &Sheet) -> BTreeSet<u64> {
+    let placed = sheet.placement.iter().map(|leg| leg.group).filter(|group| *group > 0);
+    placed.chain(sheet.claims.iter().map(|claim| claim.group)).map(u64::from).collect()
+}
+
+fn no_spread(sheet: &Sheet, refusal: &Refusal) -> String {
+    format!("no spread, refusal {}: {}", refusal.number, sentences::of_sheet(sheet, refusal))
+}
+
+fn status(all_spreads: bool) -> ExitCode {
+    ExitCode::from(if all_spreads { 0 } else { 1 })
+}
+
+/// Strikes, nets and a plot of them.
+pub fn worksheet(name: &OsStr, group: &OsStr) -> Result<ExitCode, String> {
+    let number: Option<u64> = group.to_str().and_then(|group| group.parse().ok());
+    let number = number.ok_or_else(|| format!("expected the number of a group, found `{}`", shown(group)))?;
+    let sheet = sheet(name)?;
+    match sheet.worksheet(number) {
+        Ok(rows) => {
+            let margin = sheet.margin(number).map_err(|refusal| refusal.to_string())?;
+            let mut output = Output::new();
+            output
+                .print(format!("group {number}, margin {} ({margin} mills)\n", dollars(margin)).as_bytes())?;
+            output.print(plot::table(&rows).as_bytes())?;
+            output.end()?;
+        }
+        Err(ref refusal) => {
+            program::tell(&format!("{}: {}", shown(name), no_spread(&sheet, refusal)));
+            return Ok(status(false));
+        }
+    }
+    Ok(status(true))
+}

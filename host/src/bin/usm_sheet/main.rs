@@ -1,0 +1,74 @@
+//! Makes sheet files from readable text, prints them back, checks them, and tells their margins.
+//! The script `sheet` at the root of the repository builds and starts it.
+
+#![forbid(unsafe_code)]
+
+mod arguments;
+mod check;
+mod groups;
+mod input;
+mod json;
+mod make;
+mod output;
+mod plot;
+
+use std::ffi::OsString;
+use std::process::ExitCode;
+
+use arguments::Arguments;
+use output::Output;
+use usm::{program, text};
+
+const USAGE: &str = "\
+usage:
+  sheet make TEXT OUT [--force]   make the sheet file OUT from the text file TEXT
+  sheet show FILE                 print a sheet file as text that `make` reads
+  sheet check FILE.. [--json]     print the verdict on sheet files
+  sheet margins FILE              print the margin of each group
+  sheet worksheet FILE G          print the net of group G at each of its strikes
+  sheet help                      tell about the text format too (-h, --help)
+  sheet --version                 print the version
+
+`-` stands for standard input (TEXT, FILE) or standard output (OUT); words behind `--` are no
+options. An OUT that is there already is left alone unless --force is given. `check` prints
+the line of each file on standard output, behind its name if there are several, and sentences
+for people on standard error; with --json it prints one object a file instead. The exit
+status is 0 if all is well; 1 if `check` refuses a file, or a group of `margins` or
+`worksheet` is no spread; 2 if something could not be done.
+";
+
+fn main() -> ExitCode {
+    program::run("sheet", run)
+}
+
+fn run(words: Vec<OsString>) -> Result<ExitCode, String> {
+    let arguments = Arguments::of(words).map_err(not_understood)?;
+    if arguments.help {
+        return print(&format!("{USAGE}\n{}", text::FORMAT));
+    }
+    if arguments.version {
+        return print(concat!("sheet ", env!("CARGO_PKG_VERSION"), "\n"));
+    }
+    let Arguments { force, json, .. } = arguments;
+    let files = arguments.files.as_slice();
+    match (arguments.command.as_str(), files, force, json) {
+        ("make", [text, out], force, false) => make::make(text, out, force),
+        ("show", [file], false, false) => make::show(file),
+        ("check", [_, ..], false, json) => check::check(files, json),
+        ("margins", [file], false, false) => groups::margins(file),
+        ("worksheet", [file, group], false, false) => groups::worksheet(file, group),
+        ("help", [], false, false) => print(&format!("{USAGE}\n{}", text::FORMAT)),
+        _ => Err(not_understood(String::from("the command was not understood"))),
+    }
+}
+
+fn not_understood(what: String) -> String {
+    format!("{what}; `sheet help` shows the commands")
+}
+
+fn print(text: &str) -> Result<ExitCode, String> {
+    let mut output = Output::new();
+    output.print(text.as_bytes())?;
+    output.end()?;
+    Ok(ExitCode::SUCCESS)
+}

@@ -1,0 +1,95 @@
+//! Why a call refuses, as a name beside document 01's number.
+
+/// Why a sheet, a table or a file is refused. The numbers are document 01's, in whose order refusals
+/// are looked for; `docs/RULES.md` tells of each. Later rules may bring more.
+///
+/// ```
+/// use usm::{Reason, Refusal};
+/// assert_eq!(Refusal::new(16, 3, 2).reason(), Some(Reason::ClaimNotMargin));
+/// assert_eq!(Reason::ClaimNotMargin.number(), 16);
+/// ```
+#[derive(Clone, Copy, Debug, PartialEq, Eq, PartialOrd, Ord, Hash)]
+#[non_exhaustive]
+pub enum Reason {
+    /// 1: a table is not whole records or over its limit; a file is empty, not whole blocks or over 39;
+    /// there is nothing to write.
+    WrongSize = 1,
+    /// 2: a block's check sum A or B differs.
+    ChecksDiffer = 2,
+    /// 3: any other fault of a block's form, number or order.
+    BlockOutOfForm = 3,
+    /// 4: a field is out of range.
+    FieldOutOfRange = 4,
+    /// 5: claims are not numbered 1 to n in order, or a placed record names a group above n.
+    GroupsMisnumbered = 5,
+    /// 6: the group has no leg, or is not one of 1 to 32.
+    NoLeg = 6,
+    /// 7: a group mixes underlyings.
+    UnderlyingsDiffer = 7,
+    /// 8: a group mixes American and European options.
+    StylesDiffer = 8,
+    /// 9: a group mixes listed and OTC options.
+    MarketsDiffer = 9,
+    /// 10: a series is both long and short in a group.
+    SeriesLongAndShort = 10,
+    /// 11: long and short call units of a group are unequal.
+    CallUnitsUnequal = 11,
+    /// 12: long and short put units of a group are unequal.
+    PutUnitsUnequal = 12,
+    /// 13: a short of a group expires after a long of it.
+    ShortOutlivesLong = 13,
+    /// 14: holdings and placement differ in the contracts of a line and side.
+    ContractsDiffer = 14,
+    /// 15: a short is not placed.
+    ShortNotPlaced = 15,
+    /// 16: a claim is not its group's margin.
+    ClaimNotMargin = 16,
+    /// 17: a lent slice has no room for the output.
+    NoRoom = 17,
+}
+
+impl Reason {
+    /// All of them, in the order of their numbers.
+    pub const ALL: [Reason; 17] = [
+        Reason::WrongSize,
+        Reason::ChecksDiffer,
+        Reason::BlockOutOfForm,
+        Reason::FieldOutOfRange,
+        Reason::GroupsMisnumbered,
+        Reason::NoLeg,
+        Reason::UnderlyingsDiffer,
+        Reason::StylesDiffer,
+        Reason::MarketsDiffer,
+        Reason::SeriesLongAndShort,
+        Reason::CallUnitsUnequal,
+        Reason::PutUnitsUnequal,
+        Reason::ShortOutlivesLong,
+        Reason::ContractsDiffer,
+        Reason::ShortNotPlaced,
+        Reason::ClaimNotMargin,
+        Reason::NoRoom,
+    ];
+
+    /// Document 01's number for it.
+    pub fn number(self) -> u64 {
+        self as u64
+    }
+
+    /// The reason with this number, if there is one.
+    pub fn of_number(number: u64) -> Option<Reason> {
+        Reason::ALL.into_iter().find(|reason| reason.number() == number)
+    }
+}
+
+#[cfg(test)]
+mod tests {
+    use super::*;
+
+    #[test]
+    fn reasons_are_numbered_1_to_17() {
+        let numbers: Vec<u64> = Reason::ALL.into_iter().map(Reason::number).collect();
+        assert_eq!(numbers, (1..=17).collect::<Vec<u64>>());
+        assert!(Reason::ALL.into_iter().all(|reason| Reason::of_number(reason.number()) == Some(reason)));
+        assert_eq!([0, 18, u64::MAX].map(Reason::of_number), [None; 3]);
+    }
+}

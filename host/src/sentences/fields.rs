@@ -1,0 +1,100 @@
+//! Refusal 4: which field is out of range, and what stands in it.
+
+use crate::block::{BLOCK_BYTES, RECORDS_AT};
+use crate::fields::*;
+use crate::numbers::ordinal;
+use crate::records::{
+    is_expiry, Table, GREATEST_AMOUNT, GREATEST_STRIKE, GREATEST_UNIT_SIZE, MOST_CLAIMS, MOST_CONTRACTS,
+    RECORD_BYTES,
+};
+use crate::refusal::Refusal;
+use crate::text::raw_text;
+
+/// A field, what it is called, and what may stand in it.
+struct Range {
+    name: &'static str,
+    field: Field,
+    says: String,
+    holds: fn(u64) -> bool,
+}
+
+pub fn sentence(file: &[u8], refusal: &Refusal) -> Option<String> {
+    let table = Table::ALL.into_iter().find(|table| table.number() == refusal.table)?;
+    let record = record(file, table, refusal.place)?;
+    let faults: Vec<String> = ranges(table)
+        .into_iter()
+        .map(|range| (get(&record, 0, range.field), range))
+        .filter(|(value, range)| !(range.holds)(*value))
+        .map(|(value, range)| format!("its {} is {value} and must be {}", range.name, range.says))
+        .collect();
+    let (which, text) = match table {
+        Table::Holdings => ("record of the holdings", raw_text(&record)),
+        Table::Placement => ("record of the placement", raw_text(&record)),
+        Table::Claims => {
+            ("claim", format!("claim {} {}", get(&record, 0, GROUP), get(&record, 0, CLAIM_MARGIN)))
+        }
+    };
+    (!faults.is_empty())
+        .then(|| format!("the {} {which} (`{text}`): {}", ordinal(refusal.place), faults.join("; ")))
+}
+
+/// A record of a file whose blocks are in form.
+fn record(file: &[u8], table: Table, place: u64) -> Option<[u8; RECORD_BYTES]> {
+    file.chunks_exact(BLOCK_BYTES)
+        .filter(|block| u64::from(block[4]) == table.number())
+        .flat_map(|block| block[RECORDS_AT..].chunks_exact(RECORD_BYTES).take(block[5].into()))
+        .nth(usize::try_from(place).ok()?)
+        .and_then(|record| record.try_into().ok())
+}
+
+fn ranges(table: Table) -> Vec<Range> {
+    match table {
+        Table::Holdings => legs(range("group", GROUP, "0 in the holdings", |group| group == 0)),
+        Table::Placement => {
+            legs(range("group", GROUP, "0 (not placed) to 32", |group| group <= MOST_CLAIMS as u64))
+        }
+        Table::Claims => claims(),
+    }
+}
+
+fn range(name: &'static str, field: Field, says: impl Into<String>, holds: fn(u64) -> bool) -> Range {
+    Range { name, field, says: says.into(), holds }
+}
+
+fn legs(group: Range) -> Vec<Range> {
+    let one_or_two = |value| value == 1 || value == 2;
+    vec![
+        group,
+        range("side", SIDE, "1 (long) or 2 (short)", one_or_two),
+        range("type", TYPE, "1 (call) or 2 (put)", one_or_two),
+        range("style", STYLE, "1 (American) or 2 (European)", one_or_two),
+        range("market", MARKET, "1 (listed) or 2 (OTC)", one_or_two),
+        range("unit size", UNIT_SIZE, format!("1 to {GREATEST_UNIT_SIZE}"), |size| {
+            (1..=u64::from(GREATEST_UNIT_SIZE)).contains(&size)
+        }),
+        range("underlying", UNDERLYING, format!("1 to {}", u32::MAX), |underlying| underlying >= 1),
+        range("strike in mills", STRIKE, format!("1 to {GREATEST_STRIKE}"), |strike| {
+            (1..=u64::from(GREATEST_STRIKE)).contains(&strike)
+        }),
+        range("expiry", EXPIRY, "a real date from 20000101 to 20991231", |date| is_expiry(date as u32)),
+        range("count of contracts", CONTRACTS, format!("1 to {MOST_CONTRACTS}"), |contracts| {
+            (1..=u64::from(MOST_CONTRACTS)).contains(&contracts)
+        }),
+        range("filler (bytes 24 to 31)", FILLER, "0", |filler| filler == 0),
+    ]
+}
+
+fn claims() -> Vec<Range> {
+    let zero = |value| value == 0;
+    vec![
+        range("group", GROUP, format!("1 to {MOST_CLAIMS}"), |group| {
+            (1..=MOST_CLAIMS as u64).contains(&group)
+        }),
+        range("filler (bytes 2 to 7)", (2, 6), "0", zero),
+        range("margin in mills", CLAIM_MARGIN, format!("0 to {GREATEST_AMOUNT}"), |margin| {
+            margin <= GREATEST_AMOUNT as u64
+        }),
+        range("filler (bytes 16 to 23)", (16, 8), "0", zero),
+        range("filler (bytes 24 to 31)", FILLER, "0", zero),
+    ]
+}

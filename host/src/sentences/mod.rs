@@ -1,0 +1,58 @@
+//! Refusals in sentences that say what a clerk needs: the record's own text and its place as people
+//! count, the field that is out of range, the amounts on each side.
+
+mod blocks;
+mod fields;
+mod groups;
+mod rules;
+mod short;
+mod size;
+
+use crate::reason::Reason;
+use crate::refusal::Refusal;
+use crate::sheet::Sheet;
+
+pub(crate) use short::short;
+
+/// The sentence of a refusal that the check of this file, or its reader, answered.
+///
+/// ```
+/// let text = b"holdings\n";
+/// let refusal = usm::check_file(text).unwrap_err();
+/// assert_eq!(
+///     usm::sentences::of_file(text, &refusal),
+///     "this is the text of a sheet and not yet a sheet file: first make one of it, `sheet make TEXT OUT`"
+/// );
+/// ```
+pub fn of_file(file: &[u8], refusal: &Refusal) -> String {
+    let sentence = match refusal.reason() {
+        Some(Reason::WrongSize) => size::text_sentence(file).or_else(|| size::sentence(file)),
+        Some(Reason::ChecksDiffer | Reason::BlockOutOfForm) if refusal.place == 0 => {
+            size::text_sentence(file).or_else(|| blocks::sentence(file, refusal))
+        }
+        Some(Reason::ChecksDiffer | Reason::BlockOutOfForm) => blocks::sentence(file, refusal),
+        Some(Reason::FieldOutOfRange) => fields::sentence(file, refusal),
+        _ => Sheet::from_file(file).ok().map(|sheet| of_sheet(&sheet, refusal)),
+    };
+    sentence.unwrap_or_else(|| refusal.to_string())
+}
+
+/// The sentence of a refusal that a call on this sheet answered.
+///
+/// ```
+/// use usm::{sentences, Claim, Sheet};
+/// let sheet = Sheet { claims: vec![Claim { group: 1, margin: 0 }], ..Sheet::default() };
+/// let refusal = sheet.check().unwrap_err();
+/// assert_eq!(sentences::of_sheet(&sheet, &refusal), "group 1 has no leg in the placement");
+/// ```
+pub fn of_sheet(sheet: &Sheet, refusal: &Refusal) -> String {
+    let sentence = match refusal.reason() {
+        Some(reason @ (Reason::GroupsMisnumbered | Reason::ContractsDiffer | Reason::ShortNotPlaced)) => {
+            rules::sentence(sheet, refusal, reason)
+        }
+        Some(Reason::ClaimNotMargin) => rules::claim_sentence(sheet, refusal.place),
+        Some(reason) => groups::sentence(&sheet.placement, refusal.place, reason),
+        None => None,
+    };
+    sentence.unwrap_or_else(|| refusal.to_string())
+}

@@ -1,0 +1,84 @@
+//! Refusals 5 and 14 to 16: what a sheet's records say, and what they should.
+
+use crate::numbers::{count, dollars, ordinal};
+use crate::reason::Reason;
+use crate::records::{Leg, Side};
+use crate::refusal::Refusal;
+use crate::sheet::Sheet;
+use crate::text::{leg_text, placed_text};
+
+pub fn sentence(sheet: &Sheet, refusal: &Refusal, reason: Reason) -> Option<String> {
+    let place = usize::try_from(refusal.place).ok()?;
+    let at = ordinal(refusal.place);
+    match (reason, refusal.table) {
+        (Reason::GroupsMisnumbered, 3) => misnumbered(sheet, place),
+        (Reason::GroupsMisnumbered, 2) => {
+            let leg = sheet.placement.get(place)?;
+            let claims = match sheet.claims.len() {
+                0 => String::from("there is no claim"),
+                claims => format!("the last claim is for group {claims}"),
+            };
+            let (text, group) = (placed_text(leg), leg.group);
+            Some(format!("the {at} record of the placement (`{text}`) is in group {group}, but {claims}"))
+        }
+        (Reason::ContractsDiffer, 1) => {
+            let leg = sheet.holdings.get(place)?;
+            Some(format!("the {at} record of the holdings (`{}`): {}", leg_text(leg), contracts(sheet, leg)))
+        }
+        (Reason::ContractsDiffer, 2) => {
+            let leg = sheet.placement.get(place)?;
+            Some(format!(
+                "the {at} record of the placement (`{}`): {}",
+                placed_text(leg),
+                contracts(sheet, leg)
+            ))
+        }
+        (Reason::ShortNotPlaced, 2) => {
+            let text = placed_text(sheet.placement.get(place)?);
+            Some(format!(
+                "the {at} record of the placement (`{text}`) is a short in no group; \
+                 only longs may be unplaced"
+            ))
+        }
+        _ => None,
+    }
+}
+
+fn misnumbered(sheet: &Sheet, place: usize) -> Option<String> {
+    let claim = sheet.claims.get(place)?;
+    Some(format!(
+        "the {} claim (`claim {} {}`) is for group {} and should be for group {}: \
+         claims are numbered 1, 2 and so on",
+        ordinal(place as u64),
+        claim.group,
+        claim.margin,
+        claim.group,
+        place + 1,
+    ))
+}
+
+/// Contracts of the leg's line and side, held and placed.
+fn contracts(sheet: &Sheet, leg: &Leg) -> String {
+    let sum = |legs: &[Leg]| -> u64 {
+        let same = legs.iter().filter(|other| other.line() == leg.line() && other.side == leg.side);
+        same.map(|other| u64::from(other.contracts)).sum()
+    };
+    let side = match leg.side {
+        Side::Long => "long",
+        Side::Short => "short",
+    };
+    let held = count(sum(&sheet.holdings), "contract");
+    let placed = count(sum(&sheet.placement), "contract");
+    format!("of this line the holdings have {held} {side} and the placement has {placed} {side}")
+}
+
+/// Claimed and due.
+pub fn claim_sentence(sheet: &Sheet, group: u64) -> Option<String> {
+    let claimed = sheet.claims.iter().find(|claim| u64::from(claim.group) == group)?.margin;
+    let due = sheet.margin(group).ok()?;
+    Some(format!(
+        "group {group} claims {} ({claimed} mills); its margin is {} ({due} mills)",
+        dollars(claimed),
+        dollars(due),
+    ))
+}

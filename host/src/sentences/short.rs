@@ -1,0 +1,61 @@
+//! The sentence of a refusal by itself, where neither file nor sheet is at hand.
+
+use crate::numbers::ordinal;
+use crate::reason::Reason;
+use crate::refusal::Refusal;
+
+pub fn short(refusal: &Refusal, reason: Reason) -> String {
+    let (table, place) = (table_name(refusal.table), ordinal(refusal.place));
+    let record = format!("the {place} record of the {table}");
+    match reason {
+        Reason::WrongSize => String::from(
+            "wrong size: a table must be whole 32-byte records (at most 256 legs, 32 claims), \
+             a file 1 to 39 whole 512-byte blocks, and a written sheet needs a record",
+        ),
+        Reason::ChecksDiffer => format!("the {place} block is damaged: a check sum does not fit its bytes"),
+        Reason::BlockOutOfForm => format!(
+            "the {place} block is out of form: its header, its unused bytes, its place among \
+             the kinds, or a table that grows past its limit"
+        ),
+        Reason::FieldOutOfRange => format!("{record} has a field out of range"),
+        Reason::GroupsMisnumbered if refusal.table == 3 => {
+            format!("the {place} claim is not for group {}", refusal.place.saturating_add(1))
+        }
+        Reason::GroupsMisnumbered => format!("{record} names a group that has no claim"),
+        Reason::ContractsDiffer => {
+            format!("{record}: holdings and placement differ in the contracts of its line and side")
+        }
+        Reason::ShortNotPlaced => format!("{record} is a short that is not placed"),
+        Reason::NoRoom if refusal.table == 0 => {
+            format!("no room: {} bytes or entries are needed", refusal.place)
+        }
+        Reason::NoRoom => format!("no room for the {table}: {} bytes are needed", refusal.place),
+        _ => of_group(refusal.place, reason),
+    }
+}
+
+/// The reasons whose place is a group.
+fn of_group(group: u64, reason: Reason) -> String {
+    let wrong = match reason {
+        Reason::NoLeg => "has no leg, or is not a group from 1 to 32",
+        Reason::UnderlyingsDiffer => "mixes underlyings",
+        Reason::StylesDiffer => "mixes American and European options",
+        Reason::MarketsDiffer => "mixes listed and OTC options",
+        Reason::SeriesLongAndShort => "is both long and short in one series",
+        Reason::CallUnitsUnequal => "has unequal long and short call units",
+        Reason::PutUnitsUnequal => "has unequal long and short put units",
+        Reason::ShortOutlivesLong => "has a short that expires after a long",
+        Reason::ClaimNotMargin => "claims what is not its margin",
+        _ => "is refused",
+    };
+    format!("group {group} {wrong}")
+}
+
+fn table_name(table: u64) -> &'static str {
+    match table {
+        1 => "holdings",
+        2 => "placement",
+        3 => "claims",
+        _ => "no table",
+    }
+}

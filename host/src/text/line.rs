@@ -1,0 +1,101 @@
+//! One record as its words, for sentences: what [`super::show`] prints, without the padding.
+
+use super::names::{name_of, MARKETS, SIDES, STYLES, TYPES};
+use super::show::leg_words;
+use crate::fields::{
+    get, Field, CONTRACTS, EXPIRY, GROUP, MARKET, SIDE, STRIKE, STYLE, TYPE, UNDERLYING, UNIT_SIZE,
+};
+use crate::records::{Leg, Market, Style, RECORD_BYTES};
+
+/// A leg as it stands in the holdings.
+pub fn leg_text(leg: &Leg) -> String {
+    let words = leg_words(leg);
+    words.split_whitespace().collect::<Vec<&str>>().join(" ")
+}
+
+/// A leg as it stands in the placement.
+pub fn placed_text(leg: &Leg) -> String {
+    format!("{} {}", place_text(leg.group), leg_text(leg))
+}
+
+/// Where a leg is placed.
+pub fn place_text(group: u16) -> String {
+    match group {
+        0 => String::from("unplaced"),
+        group => format!("group {group}"),
+    }
+}
+
+/// Type, strike and expiry.
+pub fn series_text(leg: &Leg) -> String {
+    format!("{} {} {}", name_of(leg.option_type, TYPES), strike_text(leg.strike), date_text(leg.expiry))
+}
+
+/// A strike of so many mills, in dollars.
+pub fn strike_text(mills: u32) -> String {
+    format!("{}.{:03}", mills / 1_000, mills % 1_000)
+}
+
+/// The number YYYYMMDD as YYYY-MM-DD.
+pub fn date_text(date: u32) -> String {
+    format!("{:04}-{:02}-{:02}", date / 10_000, date / 100 % 100, date % 100)
+}
+
+pub fn style_name(style: Style) -> &'static str {
+    name_of(style, STYLES)
+}
+
+pub fn market_name(market: Market) -> &'static str {
+    name_of(market, MARKETS)
+}
+
+/// The words of a leg record whose fields need not be in range: a term that has no word is given by its
+/// number, and a group only where it is not 0.
+pub fn raw_text(record: &[u8; RECORD_BYTES]) -> String {
+    let number = |field: Field| get(record, 0, field);
+    let term = |what: &str, field: Field, names: [&str; 2]| match number(field) {
+        value @ 1..=2 => String::from(names[value as usize - 1]),
+        value => format!("{what} {value}"),
+    };
+    let place = match number(GROUP) {
+        0 => String::new(),
+        group => format!("group {group} "),
+    };
+    format!(
+        "{place}{} {} {} {} {} unit {} underlying {} {} {}",
+        term("side", SIDE, SIDES.map(|(name, _)| name)),
+        number(CONTRACTS),
+        term("type", TYPE, TYPES.map(|(name, _)| name)),
+        strike_text(number(STRIKE) as u32),
+        date_text(number(EXPIRY) as u32),
+        number(UNIT_SIZE),
+        number(UNDERLYING),
+        term("style", STYLE, STYLES.map(|(name, _)| name)),
+        term("market", MARKET, MARKETS.map(|(name, _)| name)),
+    )
+}
+
+#[cfg(test)]
+mod tests {
+    use super::*;
+    use crate::accounts::{in_group, leg};
+
+    #[test]
+    fn a_record_in_range_has_one_text() {
+        let leg = leg("S50p");
+        assert_eq!(leg_text(&leg), "short 1 put 50.000 2011-05-21 unit 100 underlying 7 american listed");
+        assert_eq!(placed_text(&leg), format!("group 1 {}", leg_text(&leg)));
+        assert_eq!(placed_text(&in_group(0, leg)), format!("unplaced {}", leg_text(&leg)));
+        assert_eq!(raw_text(&leg.to_bytes()), placed_text(&leg));
+        assert_eq!(series_text(&leg), "put 50.000 2011-05-21");
+    }
+
+    #[test]
+    fn a_term_without_a_word_is_given_by_its_number() {
+        assert_eq!(
+            raw_text(&[0xFF; RECORD_BYTES]),
+            "group 65535 side 255 4294967295 type 255 4294967.295 429496-72-95 unit 65535 \
+             underlying 4294967295 style 255 market 255"
+        );
+    }
+}

@@ -1,0 +1,90 @@
+//! Refusals 1 to 3: files of a wrong size, texts, and blocks that are damaged or out of form.
+
+use usm::accounts::fullest;
+use usm::block::{renumber, seal};
+use usm::{Claim, Sheet, BLOCK_BYTES, LONGEST_FILE};
+
+use crate::sheets::accepted;
+use crate::Case;
+
+fn file() -> Vec<u8> {
+    accepted().to_file().expect("a file")
+}
+
+pub fn sizes() -> Vec<Case> {
+    let text = "# mine\nholdings\n";
+    let cases = [
+        ("an empty file", Vec::new()),
+        ("a torn file", file()[..1_436].to_vec()),
+        ("less than a block", vec![0; 1]),
+        ("a byte too many", vec![0; LONGEST_FILE + 1]),
+        ("a sheet's text", text.into()),
+        ("a sheet's text with a byte order mark", format!("\u{FEFF}{text}").into()),
+        ("a sheet's text, cut off in a character", [text.as_bytes(), b"# \xC3"].concat()),
+        (
+            "a sheet's text of a block's length",
+            format!("{text}{}", " ".repeat(BLOCK_BYTES - text.len())).into(),
+        ),
+        ("another text", "Dear sirs,\r\n\tplease find enclosed".into()),
+    ];
+    cases.map(|(name, file)| (String::from(name), file)).into()
+}
+
+/// The file with bytes of one block set, its checks to match.
+fn changed(name: &str, block: usize, at: usize, bytes: &[u8]) -> Case {
+    let mut file = file();
+    let block = &mut file[block * BLOCK_BYTES..][..BLOCK_BYTES];
+    block[at..at + bytes.len()].copy_from_slice(bytes);
+    seal(block);
+    (String::from(name), file)
+}
+
+pub fn blocks() -> Vec<Case> {
+    let mut damaged = file();
+    damaged[BLOCK_BYTES + 20] ^= 1;
+    let mut out_of_order = file();
+    out_of_order[BLOCK_BYTES..].rotate_left(BLOCK_BYTES);
+    renumber(&mut out_of_order);
+    vec![
+        (String::from("a damaged block"), damaged),
+        changed("no mark", 0, 0, b"USM9"),
+        changed("no such kind", 1, 4, &[4]),
+        changed("no record", 0, 5, &[0]),
+        changed("too many records in a block", 0, 5, &[16]),
+        changed("another number", 2, 6, &[1]),
+        changed("another count of blocks", 0, 8, &[1]),
+        changed("bytes behind the head", 0, 15, &[1]),
+        changed("bytes behind the records", 1, 490, &[1]),
+        changed("bytes before the checks", 2, 507, &[1]),
+        (String::from("kinds that fall"), out_of_order),
+        (String::from("behind a short block"), behind_a_short_block()),
+        (String::from("too many claims"), too_many_claims()),
+        (String::from("too many holdings"), too_many_holdings()),
+    ]
+}
+
+/// A second block of claims where the first has one claim.
+fn behind_a_short_block() -> Vec<u8> {
+    let claim = Sheet { claims: vec![Claim { group: 1, margin: 0 }], ..Sheet::default() };
+    let mut file = claim.to_file().expect("a file").repeat(2);
+    renumber(&mut file);
+    file
+}
+
+/// Three full blocks of claims.
+fn too_many_claims() -> Vec<u8> {
+    let claims = (1..=15).map(|group| Claim { group, margin: 0 }).collect();
+    let mut file = Sheet { claims, ..Sheet::default() }.to_file().expect("a file").repeat(3);
+    renumber(&mut file);
+    file
+}
+
+/// The longest sheet with one holding more.
+fn too_many_holdings() -> Vec<u8> {
+    let mut file = fullest().to_file().expect("a file");
+    let last = &mut file[17 * BLOCK_BYTES..][..BLOCK_BYTES];
+    last.copy_within(16..48, 48);
+    last[5] = 2;
+    seal(last);
+    file
+}

@@ -1,0 +1,110 @@
+//! Every sentence about a refusal, against a table that is compared whole: `sentences.txt`. After a change
+//! that is meant, `USM_WRITE_SENTENCES=1` writes the table again, to be read through.
+
+#![forbid(unsafe_code)]
+
+mod fields;
+mod files;
+mod sheets;
+
+use std::collections::BTreeSet;
+use std::fs;
+use std::path::Path;
+
+use usm::{check_file, sentences, Reason, Refusal};
+
+/// A name for what is wrong, and a file in which it is.
+type Case = (String, Vec<u8>);
+
+/// Two lines: what is asked, and the sentence below it.
+fn entry(name: &str, refusal: &Refusal, sentence: &str) -> String {
+    format!("{name}: {}  {sentence}\n", refusal.line())
+}
+
+/// The sentences of refusals by themselves, at places that count from 0 and groups that count from 1.
+fn short() -> String {
+    let tables: [&[u64]; 17] = [
+        &[0],
+        &[0],
+        &[0],
+        &[1, 2, 3],
+        &[3, 2],
+        &[2],
+        &[2],
+        &[2],
+        &[2],
+        &[2],
+        &[2],
+        &[2],
+        &[2],
+        &[1, 2],
+        &[2],
+        &[3],
+        &[0, 1, 2, 3],
+    ];
+    let refusals = (1..=17).zip(tables).flat_map(|(number, tables)| {
+        tables.iter().map(move |table| Refusal::new(number, *table, if number == 1 { 0 } else { 2 }))
+    });
+    refusals.map(|refusal| entry("by itself", &refusal, &refusal.to_string())).collect()
+}
+
+fn of_files(cases: &[Case]) -> String {
+    let entries = cases.iter().map(|(name, file)| {
+        let refusal = check_file(file).expect_err(name);
+        entry(name, &refusal, &sentences::of_file(file, &refusal))
+    });
+    entries.collect()
+}
+
+fn of_groups() -> String {
+    let sheet = sheets::no_spread();
+    let entries = [0, 1, 2, 33, u64::MAX].map(|group| {
+        let refusal = sheet.margin(group).expect_err("no spread");
+        entry(&format!("margin of group {group}"), &refusal, &sentences::of_sheet(&sheet, &refusal))
+    });
+    entries.concat()
+}
+
+fn cases() -> Vec<Case> {
+    [files::sizes(), files::blocks(), fields::legs(), fields::claims(), sheets::groups(), sheets::rules()]
+        .concat()
+}
+
+#[test]
+fn every_sentence_is_that_of_the_table() {
+    let found = format!("{}\n{}\n{}", short(), of_files(&cases()), of_groups());
+    let table = Path::new(env!("CARGO_MANIFEST_DIR")).join("tests/sentences/sentences.txt");
+    if std::env::var_os("USM_WRITE_SENTENCES").is_some() {
+        fs::write(&table, &found).expect("the table is written");
+    }
+    let expected = fs::read_to_string(&table).expect("the table of sentences");
+    for (found, expected) in found.lines().zip(expected.lines()) {
+        assert_eq!(found, expected);
+    }
+    assert_eq!(found, expected);
+}
+
+#[test]
+fn every_reason_that_a_file_can_have_is_in_the_table() {
+    let numbers: BTreeSet<u64> =
+        cases().iter().map(|(name, file)| check_file(file).expect_err(name).number).collect();
+    let reasons = Reason::ALL.into_iter().filter(|reason| *reason != Reason::NoRoom);
+    assert_eq!(numbers, reasons.map(Reason::number).collect());
+}
+
+#[test]
+fn a_refusal_of_something_else_has_its_own_sentence() {
+    // Nothing of what these name is in the file, or they are none of a file's refusals.
+    let file = sheets::accepted().to_file().expect("a file");
+    for number in 0..=18 {
+        for table in 0..=4 {
+            for place in [0, 1, 39, u64::MAX] {
+                let refusal = Refusal::new(number, table, place);
+                assert!(!sentences::of_file(&file, &refusal).is_empty());
+                assert!(!sentences::of_file(&[], &refusal).is_empty());
+            }
+        }
+    }
+    let unheld = Refusal::new(14, 1, 99);
+    assert_eq!(sentences::of_file(&file, &unheld), unheld.to_string());
+}

@@ -1,0 +1,68 @@
+//! Refusals 5 to 16: groups that are no spreads, and sheets that break a rule.
+
+use usm::accounts::{in_group, leg, placed, times};
+use usm::{Claim, Leg, Market, Sheet, Style};
+
+use crate::Case;
+
+/// P4's legs in two groups: three blocks, all accepted.
+pub fn accepted() -> Sheet {
+    let calls = [leg("S65c"), leg("L70c")].map(|leg| in_group(2, leg));
+    placed(&[leg("L50p"), leg("S60p"), calls[0], calls[1]], &[1_000_000, 500_000])
+}
+
+/// Group 1 is no spread, and there is no group 2.
+pub fn no_spread() -> Sheet {
+    placed(&[leg("L60p"), in_group(0, leg("L50p"))], &[])
+}
+
+fn case(name: &str, sheet: Sheet) -> Case {
+    (String::from(name), sheet.to_file().expect("a file"))
+}
+
+pub fn groups() -> Vec<Case> {
+    let no_spread = |name, legs: &[Leg]| case(name, placed(legs, &[0]));
+    let unplaced = in_group(0, leg("L90p"));
+    vec![
+        case("a claim without a leg", placed(&[leg("L60c"), leg("S50c")], &[1_000_000, 0])),
+        no_spread("underlyings", &[unplaced, leg("L60c"), Leg { underlying: 8, ..leg("S50c") }]),
+        no_spread("styles", &[leg("L60c"), unplaced, Leg { style: Style::European, ..leg("S50c") }]),
+        no_spread("markets", &[leg("L60c"), Leg { market: Market::Otc, ..leg("S50c") }]),
+        no_spread("long and short one series", &[leg("L60c"), leg("S50c"), leg("S60c"), leg("L50p")]),
+        no_spread("call units", &[times(12_345, "L60c"), leg("S50c"), leg("S50p")]),
+        no_spread("put units", &[Leg { unit_size: 10, ..leg("L60p") }, leg("S50p")]),
+        no_spread(
+            "a short outlives a long",
+            &[
+                times(2, "S60c"),
+                Leg { expiry: 20100522, ..leg("L70c") },
+                Leg { expiry: 20110618, ..leg("L70c") },
+            ],
+        ),
+    ]
+}
+
+pub fn rules() -> Vec<Case> {
+    let sheet = accepted();
+    let mut misnumbered = sheet.clone();
+    misnumbered.claims[1].group = 3;
+    let mut unclaimed = sheet.clone();
+    unclaimed.claims.pop();
+    let no_claims = Sheet { claims: Vec::new(), ..sheet.clone() };
+    let mut held_less = sheet.clone();
+    held_less.placement.extend([in_group(0, times(3, "L90c"))]);
+    let mut held_more = sheet.clone();
+    held_more.holdings.extend([in_group(0, times(1_500, "L70c")), in_group(0, leg("L70c"))]);
+    let mut unplaced = placed(&[leg("L60c"), leg("S50c"), in_group(0, leg("S50p"))], &[1_000_000]);
+    unplaced.placement.rotate_right(1);
+    let claims = vec![Claim { group: 1, margin: 1_000_000 }, Claim { group: 2, margin: 499_999 }];
+    vec![
+        case("claims out of number", misnumbered),
+        case("a group above the claims", unclaimed),
+        case("groups and no claims", no_claims),
+        case("more held than placed", held_more),
+        case("placed and not held", held_less),
+        case("an unplaced short", unplaced),
+        case("a claim a mill short", Sheet { claims, ..sheet }),
+    ]
+}

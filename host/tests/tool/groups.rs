@@ -1,0 +1,114 @@
+//! `margins` and `worksheet`.
+
+use usm::accounts::{in_group, leg, placed, times};
+use usm::Leg;
+
+use crate::{folder, run, told};
+
+/// P4 as groups 1 and 3, a group 2 that is no spread, and no claim at all.
+fn unclaimed() -> Vec<u8> {
+    let legs = [
+        leg("L50p"),
+        leg("S60p"),
+        in_group(3, leg("S65c")),
+        in_group(3, leg("L70c")),
+        in_group(2, times(2, "S60c")),
+        in_group(2, leg("L70c")),
+    ];
+    placed(&legs, &[]).to_file().expect("a file")
+}
+
+#[test]
+fn margins_are_told_without_a_claim() {
+    let folder = folder("tool-margins");
+    let printed = "\
+group  1  1000000 mills  $1,000.000
+group  2  no spread, refusal 11: group 2 has 100 long call units and 200 short call units; they must be \
+equal (a leg's units are its contracts times its unit size)
+group  3   500000 mills    $500.000
+";
+    assert_eq!(told(run(&folder, &["margins", "-"], &unclaimed())), (1, printed.into(), String::new()));
+    let spreads = placed(&[leg("L60c"), leg("S50c")], &[0]).to_file().expect("a file");
+    let printed = "group  1  1000000 mills  $1,000.000\n";
+    assert_eq!(told(run(&folder, &["margins", "-"], &spreads)), (0, printed.into(), String::new()));
+    let none = placed(&[in_group(0, leg("L60c"))], &[]).to_file().expect("a file");
+    let nothing = "-: no group is placed or claimed\n";
+    assert_eq!(told(run(&folder, &["margins", "-"], &none)), (0, String::new(), nothing.into()));
+    let claimed = placed(&[leg("L60c"), leg("S50c")], &[0, 0]).to_file().expect("a file");
+    let (status, printed, _) = told(run(&folder, &["margins", "-"], &claimed));
+    let no_leg = "group  2  no spread, refusal 6: group 2 has no leg in the placement";
+    assert_eq!((status, printed.lines().nth(1)), (1, Some(no_leg)));
+}
+
+#[test]
+fn a_worksheet_has_a_row_for_each_strike() {
+    let folder = folder("tool-worksheet");
+    let legs: [Leg; 4] = [leg("L50p"), leg("S60p"), leg("S65c"), leg("L70c")];
+    let file = placed(&legs, &[]).to_file().expect("a file");
+    let printed = "\
+group 1, margin $1,000.000 (1000000 mills)
+ strike          net
+$50.000  -$1,000.000  ------------------------|
+$60.000       $0.000                          |
+$65.000       $0.000                          |
+$70.000    -$500.000              ------------|
+";
+    assert_eq!(told(run(&folder, &["worksheet", "-", "1"], &file)), (0, printed.into(), String::new()));
+    let (status, printed, sentence) = told(run(&folder, &["worksheet", "-", "33"], &file));
+    let none = "-: no spread, refusal 6: there is no group 33: groups are numbered 1 to 32\n";
+    assert_eq!((status, printed.as_str(), sentence.as_str()), (1, "", none));
+    let (status, printed, sentence) = told(run(&folder, &["worksheet", "-", "one"], &file));
+    let number = "sheet: expected the number of a group, found `one`\n";
+    assert_eq!((status, printed.as_str(), sentence.as_str()), (2, "", number));
+}
+
+/// Of the worksheet of group 1 of these legs, the lines below its head.
+fn rows(test: &str, legs: &[Leg]) -> Vec<String> {
+    let file = placed(legs, &[]).to_file().expect("a file");
+    let (status, printed, _) = told(run(&folder(test), &["worksheet", "-", "1"], &file));
+    assert_eq!(status, 0);
+    printed.lines().skip(1).map(String::from).collect()
+}
+
+#[test]
+fn bars_stand_on_both_sides_of_zero() {
+    // A short vertical, and in unit 1 a long one that gains a mill before the other loses.
+    let mill = |notation, strike| Leg { unit_size: 1, strike, ..leg(notation) };
+    let legs =
+        [mill("L10c", 10_000), mill("S10c", 10_001), leg("S50c"), leg("L60c"), leg("L30p"), leg("S25p")];
+    assert_eq!(
+        rows("tool-bars", &legs),
+        [
+            " strike        net",
+            "$10.000   $500.000                          |+++++++++++++",
+            "$10.001   $500.001                          |+++++++++++++",
+            "$25.000   $500.001                          |+++++++++++++",
+            "$30.000     $0.001                          |+",
+            "$50.000     $0.001                          |+",
+            "$60.000  -$999.999  ------------------------|",
+        ]
+    );
+}
+
+#[test]
+fn no_loss_has_no_room_for_one_and_no_net_no_bar() {
+    let butterfly = [leg("L50c"), times(2, "S60c"), leg("L70c")];
+    let bars = ["|", "|++++++++++++++++++++++++", "|"];
+    for (row, bar) in rows("tool-no-loss", &butterfly)[1..].iter().zip(bars) {
+        assert!(row.ends_with(&format!("  {bar}")), "{row}");
+    }
+    let most = |notation| Leg { unit_size: 1_000, contracts: 100_000, ..leg(notation) };
+    let amounts = [Leg { strike: 1, ..most("S50c") }, Leg { strike: 99_999_999, ..most("L50c") }];
+    let last = "$99,999.999  -$9,999,999,800,000.000  ------------------------|";
+    assert_eq!(rows("tool-no-loss", &amounts).last().map(String::as_str), Some(last));
+}
+
+#[test]
+fn a_text_has_no_margins_before_it_is_made() {
+    let folder = folder("tool-margins-text");
+    for arguments in [&["margins", "-"][..], &["worksheet", "-", "1"]] {
+        let (status, printed, message) = told(run(&folder, arguments, b"placement\n"));
+        assert_eq!((status, printed.as_str()), (2, ""));
+        assert!(message.starts_with("sheet: -: refusal 1: this is the text of a sheet"), "{message}");
+    }
+}

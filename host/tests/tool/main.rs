@@ -1,0 +1,110 @@
+//! `usm_sheet` as a newcomer meets it: its commands, and the ways it says no.
+
+#![forbid(unsafe_code)]
+
+#[path = "../common/mod.rs"]
+mod common;
+
+mod check;
+mod full;
+mod groups;
+mod json;
+mod make;
+mod script;
+
+use std::ffi::OsStr;
+use std::io::Write;
+use std::path::Path;
+use std::process::{Command, Output, Stdio};
+
+use common::folder;
+
+const VERTICAL: &str = "\
+# P1 of document 01's bench
+holdings
+  long 1 call 60 2011-05-21 unit 100 underlying 7 american listed
+  short 1 call 50 2011-05-21 unit 100 underlying 7 american listed
+placement
+  group 1 long 1 call 60 2011-05-21 unit 100 underlying 7 american listed
+  group 1 short 1 call 50 2011-05-21 unit 100 underlying 7 american listed
+claims
+  claim 1 1000000
+";
+
+fn run(folder: &Path, arguments: &[&str], input: &[u8]) -> Output {
+    run_named(folder, &arguments.iter().map(OsStr::new).collect::<Vec<&OsStr>>(), input)
+}
+
+/// Runs the tool on words that need not be UTF-8.
+fn run_named(folder: &Path, arguments: &[&OsStr], input: &[u8]) -> Output {
+    let mut command = common::program(env!("CARGO_BIN_EXE_usm_sheet"));
+    command.args(arguments).current_dir(folder);
+    answer(command, input)
+}
+
+fn answer(mut command: Command, input: &[u8]) -> Output {
+    let piped = command.stdin(Stdio::piped()).stdout(Stdio::piped()).stderr(Stdio::piped());
+    let mut child = piped.spawn().expect("the program runs");
+    // A program that fails early does not read its input; that is not this test's failure.
+    let _ = child.stdin.take().expect("piped").write_all(input);
+    child.wait_with_output().expect("the program ends")
+}
+
+/// Status, standard output and standard error.
+fn told(output: Output) -> (i32, String, String) {
+    let text = |bytes: Vec<u8>| String::from_utf8(bytes).expect("UTF-8");
+    (output.status.code().expect("an exit status"), text(output.stdout), text(output.stderr))
+}
+
+/// The names of what stands in a folder, in order.
+fn names_in(folder: &Path) -> Vec<String> {
+    let entries = std::fs::read_dir(folder).expect("a folder");
+    let mut names: Vec<String> =
+        entries.map(|entry| entry.expect("an entry").file_name().to_string_lossy().into_owned()).collect();
+    names.sort();
+    names
+}
+
+#[test]
+fn commands_not_understood_are_told_of_the_help() {
+    let folder = folder("tool-usage");
+    for arguments in [
+        &[][..],
+        &["make", "a"],
+        &["check"],
+        &["show", "a", "b"],
+        &["check", "a", "--force"],
+        &["show", "a", "--json"],
+        &["worksheet", "a"],
+        &["frob", "a"],
+    ] {
+        let message = "sheet: the command was not understood; `sheet help` shows the commands\n";
+        assert_eq!(told(run(&folder, arguments, b"")), (2, String::new(), message.into()), "{arguments:?}");
+    }
+    let message = "sheet: there is no option `--frob`; `sheet help` shows the commands\n";
+    assert_eq!(told(run(&folder, &["check", "--frob", "a"], b"")), (2, String::new(), message.into()));
+}
+
+#[test]
+fn help_and_version_are_printed() {
+    let folder = folder("tool-help");
+    for arguments in [&["help"][..], &["-h"], &["--help"], &["make", "--help"]] {
+        let (status, help, errors) = told(run(&folder, arguments, b""));
+        assert_eq!((status, errors.as_str()), (0, ""));
+        assert!(help.contains("usage:") && help.contains("american"), "{help}");
+    }
+    let version = format!("sheet {}\n", env!("CARGO_PKG_VERSION"));
+    assert_eq!(told(run(&folder, &["--version"], b"")), (0, version, String::new()));
+}
+
+#[test]
+fn the_sheet_in_the_help_is_one_that_make_reads() {
+    let folder = folder("tool-help-sheet");
+    let example: String = usm::text::FORMAT
+        .lines()
+        .filter(|line| line.starts_with("  "))
+        .map(|line| format!("{line}\n"))
+        .collect();
+    let made = run(&folder, &["make", "-", "-"], example.as_bytes());
+    assert_eq!(usm::file_line(&made.stdout), "ACCEPT 1 0\n");
+}
