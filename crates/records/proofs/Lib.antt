@@ -7,3 +7,4 @@ pub mod OrderLaws
 pub mod PassLaws
 pub mod TableLaws
 pub mod Unique
+pub mod DateLaws

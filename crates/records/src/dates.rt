@@ -1,6 +1,7 @@
 // Expiries: YYYYMMDD as a number, a real date, 20000101 to 20991231.
 ghost use mathlib.Core.Path.{_≡_};
 ghost use Rattle.records.specs.Dates.{leapYear, daysIn, realDate};
+ghost use Rattle.records.specs.Within.{within};
 use crate::within::is_within;
 
 fn leap_year(year: u32) -> bool
@@ -27,8 +28,18 @@ fn days_in(year: u32, month: u32) -> u32
     MONTH_LENGTHS[i]
 }
 
+// Every month has 28 days, so its length is asked for past the 28th only.
+fn good_day(year: u32, month: u32, day: u32) -> bool
+    ensures { λ r. ⌜ r ≡ within 1 (daysIn year month) day ⌝ }
+{
+    if 28 < day {
+        return is_within(1, days_in(year, month), day);
+    }
+    is_within(1, 12, month) & (1 <= day)
+}
+
 pub(crate) fn real_date(n: u32) -> bool
     ensures { λ r. ⌜ r ≡ realDate n ⌝ }
 {
-    is_within(20000101, 20991231, n) & is_within(1, days_in(n / 10000, n / 100 % 100), n % 100)
+    is_within(20000101, 20991231, n) & good_day(n / 10000, n / 100 % 100, n % 100)
 }

@@ -1,4 +1,4 @@
-//! The sheets that are timed.
+//! Ordinary sheets that are timed.
 
 use usm::accounts::{in_group, leg};
 use usm::{Claim, Leg, OptionType, Sheet, Side};
@@ -6,11 +6,25 @@ use usm::{Claim, Leg, OptionType, Sheet, Side};
 /// `groups` spreads of `legs` legs each, every leg a line of its own; the holdings stand in
 /// another order than the placement.
 pub fn sheet(groups: u16, legs: usize) -> Sheet {
-    let placement: Vec<Leg> = (1..=groups).flat_map(|group| spread(group, legs)).collect();
+    sheet_from(leg("L50c").strike, groups, legs)
+}
+
+/// So many different sheets of 12 groups and 60 legs.
+pub fn typical_sheets(count: u32) -> Vec<Sheet> {
+    (0..count).map(|index| sheet_from(leg("L50c").strike + 10 * index, 12, 5)).collect()
+}
+
+/// The same with another lowest strike.
+fn sheet_from(strike: u32, groups: u16, legs: usize) -> Sheet {
+    let placement: Vec<Leg> = (1..=groups).flat_map(|group| spread(strike, group, legs)).collect();
     let count = placement.len();
     // 101 has no common factor with any count used here, so each leg comes up once.
     let holdings = (0..count).map(|index| in_group(0, placement[index * 101 % count])).collect();
-    let mut sheet = Sheet { holdings, placement, claims: Vec::new() };
+    claimed(Sheet { holdings, placement, claims: Vec::new() }, groups)
+}
+
+/// The sheet with the margins of its groups claimed, which is then accepted.
+pub fn claimed(mut sheet: Sheet, groups: u16) -> Sheet {
     let margin = |group| sheet.margin(u64::from(group)).expect("a spread");
     sheet.claims = (1..=groups).map(|group| Claim { group, margin: margin(group) }).collect();
     sheet.check().expect("a sheet to be timed is accepted");
@@ -18,8 +32,8 @@ pub fn sheet(groups: u16, legs: usize) -> Sheet {
 }
 
 /// Verticals at ascending strikes, calls and puts in turn; a butterfly makes the number odd.
-fn spread(group: u16, count: usize) -> Vec<Leg> {
-    let lowest = Leg { group, underlying: u32::from(group), ..leg("L50c") };
+fn spread(strike: u32, group: u16, count: usize) -> Vec<Leg> {
+    let lowest = Leg { group, strike, underlying: u32::from(group), ..leg("L50c") };
     let mut legs = Vec::new();
     let mut add = |side, option_type, contracts| {
         let strike = lowest.strike + 250 * legs.len() as u32;

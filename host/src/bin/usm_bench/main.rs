@@ -1,82 +1,59 @@
 //! The library beside the model: the same inputs in one run, nanoseconds per call.
 //!
-//! Batches of the two take turns, and the middle one of each is shown, so that a busy
-//! moment of the machine does not fall on one side only. Lent buffers are made once and
-//! not cleared between calls.
+//! Batches of the two take turns. Of each side the least and the middle time are shown, and of
+//! the ratios of neighbouring batches the middle one and the range of their middle half, so that
+//! a busy moment of the machine does not decide. Lent buffers are made once and not cleared
+//! between calls.
 
 #![forbid(unsafe_code)]
 
+mod crafted;
 mod inputs;
 mod rows;
-
-use std::sync::atomic::{AtomicU64, Ordering};
-use std::time::{Duration, Instant};
+mod times;
 
 use rows::Row;
-
-const BATCHES: usize = 21;
-const BATCH_TIME: Duration = Duration::from_millis(4);
+use times::{measure, Measured};
 
 fn main() {
     if let Ok(emulator) = std::env::var("USM_RUNNER") {
         println!("under the emulator {emulator}: the times say nothing, and a ratio may be off by three\n");
     }
-    println!("{:<46} {:>12} {:>12} {:>14}", "call", "model ns", "library ns", "library/model");
-    let mut slower = Vec::new();
-    for mut row in rows::rows() {
-        let (model, library) = measure(&mut row);
-        println!("{:<46} {model:>12.0} {library:>12.0} {:>14.2}", row.name, library / model);
-        if library > model {
-            slower.push(row.name);
-        }
-    }
-    match slower.as_slice() {
-        [] => println!("\nno row is slower than the model"),
-        names => println!("\nslower than the model: {}", names.join("; ")),
-    }
-}
-
-/// Nanoseconds per call of the model and of the library.
-fn measure(row: &mut Row) -> (f64, f64) {
-    let calls_of_model = calls_in_a_batch(&mut row.model);
-    let calls_of_library = calls_in_a_batch(&mut row.library);
-    let (mut of_model, mut of_library) = (Vec::new(), Vec::new());
-    for _ in 0..BATCHES {
-        of_model.push(batch(&mut row.model, calls_of_model));
-        of_library.push(batch(&mut row.library, calls_of_library));
-    }
-    (middle(of_model), middle(of_library))
-}
-
-/// How many calls take about the time of a batch.
-fn calls_in_a_batch(call: &mut dyn FnMut() -> u64) -> u32 {
-    let mut calls = 1;
-    loop {
-        let per_call = batch(call, calls);
-        let wanted = BATCH_TIME.as_nanos() as f64 / per_call.max(1.0);
-        if wanted <= 2.0 * f64::from(calls) || calls >= 1 << 24 {
-            return (wanted as u32).max(1);
-        }
-        calls *= 4;
+    println!(
+        "{:<44} {:>19} {:>19} {:>7} {:>20}",
+        "nanoseconds", "model least, middle", "library least, mid.", "least", "middle (middle half)"
+    );
+    let slower: Vec<&str> = rows::rows().into_iter().filter_map(|row| timed(row).1).collect();
+    let (nightly, behind) = timed(rows::nightly());
+    // A floor has no other side to be ahead of.
+    timed(rows::floor());
+    println!(
+        "\nsheets a second, one thread, 1,000 different typical files: model {:.0}, library {:.0}",
+        1e9 / nightly.model.middle,
+        1e9 / nightly.library.middle
+    );
+    match slower.into_iter().chain(behind).collect::<Vec<_>>().as_slice() {
+        [] => println!("no row is slower than the model"),
+        names => println!("slower than the model: {}", names.join("; ")),
     }
 }
 
-fn batch(call: &mut dyn FnMut() -> u64, calls: u32) -> f64 {
-    let start = Instant::now();
-    let folded = (0..calls).fold(0, |folded: u64, _| folded.rotate_left(1) ^ call());
-    let took = start.elapsed();
-    keep(folded);
-    took.as_nanos() as f64 / f64::from(calls)
-}
-
-/// Makes use of the results of a batch, so that no call is left out. (`std::hint::black_box` asks for a newer
-/// Rust than this package does.)
-fn keep(folded: u64) {
-    static RESULTS: AtomicU64 = AtomicU64::new(0);
-    RESULTS.fetch_xor(folded, Ordering::Relaxed);
-}
-
-fn middle(mut times: Vec<f64>) -> f64 {
-    times.sort_by(f64::total_cmp);
-    times[times.len() / 2]
+/// Times a row and prints it; its name comes back if the library is slower.
+fn timed(mut row: Row) -> (Measured, Option<&'static str>) {
+    let measured = measure(&mut row.model, &mut row.library);
+    let Measured { model, library, ratios } = &measured;
+    println!(
+        "{:<44} {:>9.0} {:>9.0} {:>9.0} {:>9.0} {:>7.2} {:>6.2} ({:.2} to {:.2})",
+        row.name,
+        model.least,
+        model.middle,
+        library.least,
+        library.middle,
+        library.least / model.least,
+        ratios.middle,
+        ratios.low,
+        ratios.high
+    );
+    let slower = (ratios.middle > 1.0).then(|| row.name);
+    (measured, slower)
 }

@@ -4,7 +4,8 @@ use usm::block::{BLOCK_BYTES, LONGEST_FILE};
 use usm::both::{Calls, LIBRARY, MODEL};
 use usm::{leg_table, Accepted, Refusal, Sheet, Table, Tables, MOST_CLAIMS, MOST_LEGS};
 
-use crate::inputs::sheet;
+use crate::crafted;
+use crate::inputs::{sheet, typical_sheets};
 
 pub struct Row {
     pub name: &'static str,
@@ -101,13 +102,42 @@ fn damaged(sheet: &Sheet, block: usize) -> Vec<u8> {
     file
 }
 
-pub fn rows() -> Vec<Row> {
-    let (small, typical, full, wide) = (sheet(1, 4), sheet(12, 5), sheet(32, 8), sheet(1, 256));
-    let mut bad_field = full.tables();
-    bad_field.holdings[2] = 9; // the side of record 0
-    let mut wrong_claim = full.clone();
-    wrong_claim.claims[31].margin ^= 1;
+/// A thousand different files in turn, as a nightly run meets them.
+fn check_files(name: &'static str, files: &[Vec<u8>]) -> Row {
+    row(name, |calls| {
+        let files = files.to_vec();
+        let mut turns = (0..files.len()).cycle();
+        move || folded((calls.check_file)(&files[turns.next().expect("it never ends")]), total)
+    })
+}
 
+/// What any reader of a file has to do at least, on both sides alike.
+pub fn floor() -> Row {
+    row("copy of a file's bytes (39 blocks)", |_| {
+        let file = file_of(&sheet(32, 8));
+        let mut copy = vec![0; file.len()];
+        move || {
+            copy.copy_from_slice(&file);
+            u64::from(copy[copy.len() / 2])
+        }
+    })
+}
+
+/// Typical files, by which sheets a second are counted.
+pub fn nightly() -> Row {
+    let files: Vec<Vec<u8>> = typical_sheets(1_000).iter().map(file_of).collect();
+    check_files("check file, 1,000 typical files in turn", &files)
+}
+
+pub fn rows() -> Vec<Row> {
+    let mut rows = ordinary();
+    rows.extend(refused());
+    rows.extend(made_to_be_slow());
+    rows
+}
+
+fn ordinary() -> Vec<Row> {
+    let (small, typical, full, wide) = (sheet(1, 4), sheet(12, 5), sheet(32, 8), sheet(1, 256));
     vec![
         check_sheet("check sheet, small (4 legs, 1 group)", &small.tables()),
         check_sheet("check sheet, typical (60 legs, 12 groups)", &typical.tables()),
@@ -115,6 +145,7 @@ pub fn rows() -> Vec<Row> {
         check_sheet("check sheet, one group of 256 strikes", &wide.tables()),
         margins("margins of one group of 256 strikes", &wide),
         margins("margins of 32 groups of 8", &full),
+        margins("margins of one group of one strike", &crafted::one_strike()),
         worksheet("worksheet of 256 strikes", &wide),
         worksheet("worksheet of 4 strikes", &small),
         check_file("check file, small (3 blocks)", &file_of(&small)),
@@ -126,9 +157,32 @@ pub fn rows() -> Vec<Row> {
         file_table("table of one group of 256 strikes", &file_of(&wide)),
         read_file("read file, 39 blocks", &file_of(&full)),
         write_file("write file, 39 blocks", &full),
+    ]
+}
+
+fn refused() -> Vec<Row> {
+    let full = sheet(32, 8);
+    let mut bad_field = full.tables();
+    bad_field.holdings[2] = 9; // the side of record 0
+    let mut wrong_claim = full.clone();
+    wrong_claim.claims[31].margin ^= 1;
+    vec![
         check_sheet("refused early: bad field in holding 0 (4)", &bad_field),
         check_sheet("refused late: claim 32 a mill off (16)", &wrong_claim.tables()),
         check_file("refused early: block 0 damaged (2)", &damaged(&full, 0)),
         check_file("refused late: block 38 damaged (2)", &damaged(&full, 38)),
+        check_sheet("refused: first holding uneven (14)", &crafted::uneven_at(0).tables()),
+        check_sheet("refused: last holding uneven (14)", &crafted::uneven_at(MOST_LEGS - 1).tables()),
+    ]
+}
+
+fn made_to_be_slow() -> Vec<Row> {
+    vec![
+        check_sheet("crafted: 256 lines, all different", &crafted::all_different().tables()),
+        check_sheet("crafted: 256 records of one line", &crafted::one_line().tables()),
+        check_sheet("crafted: 256 lines of one bucket", &crafted::one_bucket().tables()),
+        check_sheet("crafted: 512 lines, unit sizes alone (14)", &crafted::sizes_uneven().tables()),
+        check_sheet("crafted: one strike, 256 legs", &crafted::one_strike().tables()),
+        check_sheet("crafted: the worst found", &crafted::worst_found().tables()),
     ]
 }

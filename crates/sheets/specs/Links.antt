@@ -1,0 +1,45 @@
+-- The search for the first record of a line and side, from link to link: for the contracts of functions that are not public.
+-- A link is to a record, counted from 1, or to none, 0. There is one for each bucket and eight for each record.
+use mathlib.Core.Path.{_≡_}
+use mathlib.Core.Bool.{true, false, cond}
+use mathlib.Core.List.{List}
+use Prim.Native.Nat.{ℕ, suc, _+_, _*_, _/_, _%_, _<_}
+use lib.Dec.{ltb}
+use lib.ListN.{getD}
+use Rattle.records.specs.declared.legs.Leg.{Leg}
+use Rattle.sheets.specs.Numbered.{alike}
+use Rattle.sheets.specs.declared.numbers.Digits.{Digits}
+
+-- which of 509 buckets a leg is in: legs of one line and side are in one
+unfoldable pub bucketOf : Leg → ℕ
+bucketOf l = (l .strike + 3 * l .expiry + 31 * l .underlying + 7 * l .side + 5 * l .right) % 509
+
+-- the line and side of a leg as two numbers, read digit by digit to the base 8
+unfoldable pub digitsOf : Leg → Digits
+digitsOf l =
+    record {
+      these = l .strike + 134217728 * l .expiry;
+      those = l .underlying + 4294967296 * l .size + 4398046511104 * (l .side + 2 * l .right + 4 * l .style + 8 * l .market);
+    }
+
+-- the digits after the first
+unfoldable pub restOf : Digits → Digits
+restOf d = cond (ltb (d .these) 8) (record { these = d .those; those = 0 }) (record { these = d .these / 8; those = d .those })
+
+-- the link of record j for the first digit
+unfoldable pub linkBelow : ℕ → Digits → ℕ
+linkBelow j d = 509 + 8 * j + d .these % 8
+
+-- no link leads anywhere
+abbrev pub Unlinked : List ℕ → Type 0
+Unlinked links = (l : ℕ) → getD links l 0 ≡ 0
+
+-- links lead to the first k records, and each to one whose own links come after it
+abbrev pub Rising : ℕ → List ℕ → Type 0
+Rising k links = (l j : ℕ) → getD links l 0 ≡ suc j → (j < k) × (l < 509 + 8 * j)
+
+-- the search for x, with these digits left, goes from link l to link `end`, which is free or leads to a record alike
+pub data Ends (leg : ℕ → Leg) (links : List ℕ) (x : Leg) : Digits → ℕ → ℕ → Type 0 where
+  free : {d : Digits} {l end : ℕ} → end ≡ l → getD links l 0 ≡ 0 → Ends leg links x d l end
+  met : {d : Digits} {l end : ℕ} (j : ℕ) → end ≡ l → getD links l 0 ≡ suc j → alike leg x j ≡ true → Ends leg links x d l end
+  on : {d : Digits} {l end : ℕ} (j : ℕ) → getD links l 0 ≡ suc j → alike leg x j ≡ false → Ends leg links x (restOf d) (linkBelow j d) end → Ends leg links x d l end

@@ -1,0 +1,23 @@
+use borrow.Author.Needs.{needs}
+use Rattle.spreads.specs.Search.{markOf}
+use Rattle.spreads.proofs.pairs.mark_of.Statement.{statement}
+use Rattle.spreads.proofs.pairs.mark_of.Tie as tie
+
+returns : tie.Need-returns
+unfolding markOf
+returns c = search needs
+
+pub mark-of-spec : {M : Type 1} → statement M
+mark-of-spec =
+    tie.close
+    (tie.spec
+    (λ c. search needs)
+    (λ c. search needs)
+    (λ c. search needs)
+    (λ c. search needs)
+    (λ c. search needs)
+    (λ c. search needs)
+    (λ c. search needs)
+    (λ c. search needs)
+    (λ c. search needs)
+    returns)

@@ -1,0 +1,78 @@
+//! Sheets that are made to be slow, or to be refused where the search for a refusal ends first or last.
+
+use usm::accounts::{in_group, leg};
+use usm::{Leg, Sheet, Side, MOST_LEGS};
+
+use crate::inputs::claimed;
+
+/// The library finds lines through buckets by a remainder by this: strikes that many mills apart
+/// fall into one bucket.
+const BUCKETS: u32 = 509;
+
+/// A later expiry than document 01's.
+const LATER: u32 = 20110618;
+
+/// Unplaced longs, held as they stand in the placement: nearly all the time goes into lines.
+fn unplaced(lines: Vec<Leg>) -> Sheet {
+    claimed(Sheet { holdings: lines.clone(), placement: lines, claims: Vec::new() }, 0)
+}
+
+/// As many longs as a table takes, at strikes `step` mills apart.
+fn longs(lowest: u32, step: u32) -> Vec<Leg> {
+    (0..MOST_LEGS as u32).map(|index| in_group(0, Leg { strike: lowest + step * index, ..leg("L50c") })).collect()
+}
+
+pub fn all_different() -> Sheet {
+    unplaced(longs(1, 1))
+}
+
+pub fn one_line() -> Sheet {
+    unplaced(longs(1, 0))
+}
+
+pub fn one_bucket() -> Sheet {
+    unplaced(longs(1, BUCKETS))
+}
+
+/// No line of the holdings is in the placement, and they differ in unit size alone, which is the last
+/// thing that the library tells two lines of a bucket apart by: 14 at holding 0.
+pub fn sizes_uneven() -> Sheet {
+    let sized = |first| (first..).zip(longs(1, 0)).map(|(unit_size, leg)| Leg { unit_size, ..leg }).collect();
+    Sheet { holdings: sized(1), placement: sized(1 + MOST_LEGS as u16), claims: Vec::new() }
+}
+
+/// One contract more is held than placed in this record: 14 there.
+pub fn uneven_at(record: usize) -> Sheet {
+    let mut sheet = all_different();
+    sheet.holdings[record].contracts += 1;
+    sheet
+}
+
+/// One group of one strike, whose legs differ in unit size alone, the shorts expiring first. Every
+/// pair of legs has to be looked at for a doubled series, and all lines share a bucket.
+pub fn one_strike() -> Sheet {
+    one_group(|index| Leg { unit_size: index as u16 + 1, ..leg("L50c") })
+}
+
+/// The slowest sheet that a search over how often each strike comes back has found: one group, each
+/// strike in `REPEATS` longs and shorts, lines of one bucket.
+pub fn worst_found() -> Sheet {
+    one_group(|index| Leg {
+        strike: 1 + BUCKETS * (index / REPEATS) as u32,
+        unit_size: (index % REPEATS) as u16 + 1,
+        ..leg("L50c")
+    })
+}
+
+const REPEATS: usize = 32;
+
+/// Half as many longs as a table takes, each beside a short that expires first.
+fn one_group(long: impl Fn(usize) -> Leg) -> Sheet {
+    let pair = |index| {
+        let short = Leg { side: Side::Short, ..long(index) };
+        [Leg { expiry: LATER, ..long(index) }, short]
+    };
+    let placement: Vec<Leg> = (0..MOST_LEGS / 2).flat_map(pair).collect();
+    let holdings = placement.iter().map(|leg| in_group(0, *leg)).collect();
+    claimed(Sheet { holdings, placement, claims: Vec::new() }, 1)
+}

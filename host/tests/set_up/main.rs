@@ -1,0 +1,231 @@
+//! README's first command on a machine where something is missing: the toolchain, cargo, a C compiler. The
+//! gate and `x86-cargo` run on a path of the test's own, where stand-ins tell what they were asked.
+
+#![forbid(unsafe_code)]
+
+#[path = "../common/scripts.rs"]
+mod scripts;
+
+use std::fs;
+use std::path::{Path, PathBuf};
+use std::process::{Command, Stdio};
+
+use scripts::{put_script, put_tools, told, Folder, Told};
+
+const TOOLS: [&str; 11] =
+    ["awk", "bash", "cat", "cp", "dirname", "env", "mktemp", "rm", "sed", "tail", "tee"];
+const PACKAGES: &str = "cargo rustc gcc g++ libc6-dev";
+const CARGO: &str = "case \"$*\" in\n\
+                     --version) echo cargo 1 ;;\n\
+                     *--no-run*) ;;\n\
+                     *) echo 'test result: ok. 2 passed; 0 failed;' ;;\n\
+                     esac";
+
+/// A clone with the scripts of the set-up, on a machine that has all it takes.
+struct Machine {
+    folder: Folder,
+}
+
+impl Machine {
+    fn whole(name: &str) -> Machine {
+        let machine = Machine { folder: Folder::new(&format!("set-up-{name}")) };
+        let root = Path::new(env!("CARGO_MANIFEST_DIR")).join("..");
+        for folder in ["clone/.ci", "clone/host", "packages", "temporary"] {
+            fs::create_dir_all(machine.beside(folder)).expect("a folder");
+        }
+        for file in [".ci/run", "host/x86-cargo", "host/run-tests"] {
+            fs::copy(root.join(file), machine.beside("clone").join(file)).expect("a script");
+        }
+        put_tools(&machine.beside("tools"), &TOOLS);
+        put_script(&machine.beside("clone/check-sheet"), "echo ACCEPT 2 1500000");
+        machine.put("uname", "echo x86_64");
+        machine.put("id", "echo 0");
+        machine.put("rt", &machine.told_to("rt", "[ \"$1\" != ci ] || echo '3 passed, 0 failed'"));
+        machine.put("cargo", CARGO);
+        machine.put("rustc", "echo rustc 1");
+        machine.put("cc", "cat >/dev/null");
+        machine.put("c++", "cat >/dev/null");
+        for name in ["cargo", "rustc", "cc", "c++"] {
+            fs::copy(machine.tool(name), machine.beside("packages").join(name)).expect("a package");
+        }
+        let install = format!(
+            "[ \"$1\" = update ] || cp '{}'/* '{}'",
+            machine.beside("packages").display(),
+            machine.beside("tools").display()
+        );
+        machine.put("apt-get", &machine.told_to("apt-get", &install));
+        machine
+    }
+
+    fn without(name: &str, missing: &[&str]) -> Machine {
+        let machine = Machine::whole(name);
+        for tool in missing {
+            fs::remove_file(machine.tool(tool)).expect("it was there");
+        }
+        machine
+    }
+
+    fn beside(&self, name: &str) -> PathBuf {
+        self.folder.0.join(name)
+    }
+
+    fn tool(&self, name: &str) -> PathBuf {
+        self.beside("tools").join(name)
+    }
+
+    fn put(&self, name: &str, text: &str) {
+        put_script(&self.tool(name), text);
+    }
+
+    /// A stand-in that first writes down what it was asked.
+    fn told_to(&self, name: &str, then: &str) -> String {
+        format!("echo \"{name} $*\" >>'{}'\n{then}", self.beside("asked").display())
+    }
+
+    /// What stand-ins were asked, one after the other.
+    fn asked(&self) -> Vec<String> {
+        let asked = fs::read_to_string(self.beside("asked")).unwrap_or_default();
+        asked.lines().map(String::from).collect()
+    }
+
+    fn run(&self, script: &str, arguments: &[&str]) -> Told {
+        let mut command = Command::new(self.beside("clone").join(script));
+        command.env_clear().env("PATH", self.beside("tools")).env("TMPDIR", self.beside("temporary"));
+        told(command.args(arguments).stdin(Stdio::null()).output().expect("the script runs"))
+    }
+
+    fn gate(&self) -> Told {
+        let run = self.run(".ci/run", &[]);
+        let left = fs::read_dir(self.beside("temporary")).expect("a folder").count();
+        assert_eq!(left, 0, "nothing is left behind");
+        run
+    }
+}
+
+/// The last line of standard output, the status, and standard error.
+fn ending(run: &Told) -> (&str, i32, &str) {
+    (run.out.lines().last().unwrap_or(""), run.status, run.err.as_str())
+}
+
+const NOT_BEGUN: &str = "0 passed, 1 failed";
+
+#[test]
+fn with_all_there_nothing_is_installed_and_everything_counted() {
+    let machine = Machine::whole("whole");
+    assert_eq!(
+        ending(&machine.gate()),
+        ("10 passed, 0 failed", 0, ""),
+        "3 proved, 6 tested, README's command"
+    );
+    assert_eq!(machine.asked(), ["rt ci", "rt staticlib usm_c"]);
+}
+
+#[test]
+fn without_the_toolchain_one_line_says_what_is_needed() {
+    let machine = Machine::without("no-rt", &["rt", "cargo"]);
+    let message = ".ci/run: the Rattle toolchain is needed: its command 'rt' is not on the path\n";
+    assert_eq!(ending(&machine.gate()), (NOT_BEGUN, 2, message));
+    assert!(machine.asked().is_empty());
+}
+
+#[test]
+fn root_gets_what_is_missing_installed_before_anything_is_proved() {
+    let machine = Machine::without("root", &["cargo", "rustc", "cc", "c++"]);
+    let message = format!("x86-cargo: installing {PACKAGES}\n");
+    assert_eq!(ending(&machine.gate()), ("10 passed, 0 failed", 0, message.as_str()));
+    let install = format!("apt-get install -y --no-install-recommends {PACKAGES}");
+    assert_eq!(machine.asked(), ["apt-get update", &install, "rt ci", "rt staticlib usm_c"]);
+}
+
+/// A compiler without headers and a cargo without a toolchain are as good as none.
+#[test]
+fn each_tool_that_is_missing_or_does_not_run_is_installed() {
+    for tool in ["cc", "c++", "cargo", "rustc"] {
+        let missing = Machine::without("missing", &[tool]);
+        let broken = Machine::whole("broken");
+        broken.put(tool, "exit 1");
+        for machine in [missing, broken] {
+            assert_eq!(machine.run("host/x86-cargo", &["--version"]).out, "cargo 1\n", "{tool}");
+            assert_eq!(machine.asked().len(), 2, "{tool}: update and install");
+        }
+    }
+}
+
+#[test]
+fn to_build_a_program_takes_no_c_plus_plus() {
+    let machine = Machine::without("build", &["c++"]);
+    for (arguments, installs) in [(["build"], false), (["run"], false), (["test"], true)] {
+        assert_eq!(machine.run("host/x86-cargo", &arguments).status, 0, "{arguments:?}");
+        assert_eq!(!machine.asked().is_empty(), installs, "{arguments:?}");
+    }
+}
+
+#[test]
+fn others_are_told_the_packages() {
+    let machine = Machine::without("other", &["cargo", "cc"]);
+    machine.put("id", "echo 1000");
+    let message = format!(
+        "x86-cargo: cargo and compilers of C and C++ are needed; as root, on Debian: \
+         apt-get update && apt-get install -y --no-install-recommends {PACKAGES}\n"
+    );
+    assert_eq!(ending(&machine.gate()), (NOT_BEGUN, 2, message.as_str()));
+    assert!(machine.asked().is_empty());
+}
+
+#[test]
+fn an_arm_machine_is_told_its_own_packages() {
+    let machine = Machine::whole("arm");
+    machine.put("uname", "echo aarch64");
+    machine.put("id", "echo 1000");
+    let run = machine.gate();
+    assert_eq!((run.status, run.err.lines().count()), (2, 1), "{}", run.err);
+    for words in ["dpkg --add-architecture amd64 && apt-get update", "libstd-rust-dev:amd64", "qemu-user"] {
+        assert!(run.err.contains(words), "{}", run.err);
+    }
+}
+
+#[test]
+fn an_installation_that_fails_is_told_in_one_line() {
+    let machine = Machine::without("apt-fails", &["cargo"]);
+    machine.put("apt-get", "echo 'E: no network' >&2; exit 100");
+    let needed = format!("apt-get update && apt-get install -y --no-install-recommends {PACKAGES}");
+    let message = format!(
+        "x86-cargo: installing {PACKAGES}\nE: no network\n\
+         x86-cargo: apt-get failed (its words stand above); what is needed: {needed}\n"
+    );
+    assert_eq!(ending(&machine.gate()), (NOT_BEGUN, 2, message.as_str()));
+
+    let machine = Machine::without("apt-does-nothing", &["cargo"]);
+    machine.put("apt-get", "exit 0");
+    let run = machine.gate();
+    assert!(run.err.ends_with("but cargo and compilers of C and C++ still do not run\n"), "{}", run.err);
+    assert_eq!(ending(&run).0, NOT_BEGUN);
+
+    let machine = Machine::without("no-apt", &["cargo", "apt-get"]);
+    let run = machine.gate();
+    assert!(run.err.contains("there is no apt-get") && run.err.contains(PACKAGES), "{}", run.err);
+    assert_eq!((ending(&run).0, run.status), (NOT_BEGUN, 2));
+}
+
+#[test]
+fn the_last_line_counts_what_failed() {
+    let failing = |name: &str, tool: &str, text: &str| {
+        let machine = Machine::whole(name);
+        machine.put(tool, text);
+        let run = machine.gate();
+        (String::from(ending(&run).0), run.status)
+    };
+    let count = |passed_failed: &str, status: i32| (String::from(passed_failed), status);
+    assert_eq!(failing("rt-1", "rt", "echo '2 passed, 1 failed'; exit 1"), count("2 passed, 1 failed", 1));
+    assert_eq!(failing("rt-2", "rt", "echo 'rt: a bad crates.txt'; exit 2"), count("0 passed, 1 failed", 1));
+    assert_eq!(failing("rt-3", "rt", "echo '2 passed, 0 failed'; exit 3"), count("2 passed, 1 failed", 1));
+    assert_eq!(
+        failing("library", "rt", "[ \"$1\" = ci ] && echo '2 passed, 0 failed'"),
+        count("2 passed, 1 failed", 1)
+    );
+    let one_fails = CARGO.replace("ok. 2 passed; 0 failed;", "FAILED. 1 passed; 1 failed;");
+    assert_eq!(failing("tests", "cargo", &one_fails), count("7 passed, 3 failed", 1));
+    let machine = Machine::whole("second-command");
+    put_script(&machine.beside("clone/check-sheet"), "echo ACCEPT 2 1");
+    assert_eq!(ending(&machine.gate()), ("9 passed, 1 failed", 1, ""));
+}
