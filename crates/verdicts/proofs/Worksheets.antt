@@ -6,6 +6,9 @@ use native.Mathlib.Omega.{arith}
 use lib.ListN.{length, take, length-map}
 use borrow.Author.Tests.{le-leb}
 use Rattle.records.specs.declared.refusals.Refusal.{Refusal}
+use Rattle.records.specs.Tables.{tableChecks}
+use Rattle.records.specs.declared.tables.Kind.the-variants.{Placement}
+use Rattle.records.proofs.PassLaws.{clear, unclear, pass-left}
 use Rattle.records.proofs.PutLaws.{put-holds, put-front}
 use Rattle.spreads.specs.Calls.{groupChecks, strikesListed, worksheetCall, listLeft}
 use Rattle.records.specs.declared.legs.Leg.{Leg}
@@ -15,7 +18,7 @@ use Rattle.spreads.specs.Steps.{Checked}
 use Rattle.spreads.specs.Strikes.{strikesOf, netsOf}
 use Rattle.spreads.specs.declared.calls.Listed.{Listed}
 use Rattle.spreads.specs.declared.calls.Listed.the-variants.{Entries, Refused}
-use Rattle.spreads.proofs.Answers.{checked-first, list-in}
+use Rattle.spreads.proofs.Answers.{list-in}
 use Rattle.spreads.proofs.Bounds.{group-few}
 use Rattle.verdicts.specs.Steps.{Answered}
 use Rattle.verdicts.proofs.TableFits.{strikes-count}
@@ -23,7 +26,8 @@ use Rattle.verdicts.proofs.TableFits.{strikes-count}
 module _ (xs : List ℕ) (g : ℕ) (a : Answered xs g) where
   answered-checked : Checked xs
   unfolding groupChecks
-  answered-checked = checked-first xs (spreadChecks g (groupIn xs g)) a
+  answered-checked =
+      unclear (tableChecks Placement xs) (pass-left (tableChecks Placement xs) (spreadChecks g (groupIn xs g)) (clear _ a))
 
   pub strikes-few : length (strikesOf (groupIn xs g)) ≤ 256
   strikes-few = omega (arith, strikes-count (groupIn xs g), group-few xs answered-checked g)
