@@ -30,7 +30,7 @@ module _ (placement : List Leg) where
       omega (arith, sum-append (λ s. s .margin) (shownIn n placement) (shownOf (suc n) (groupOf (suc n) placement) ∷ []), shown-total n)
 
   shown-margins : (n : ℕ) → All (λ s. s .margin ≡ most lossOf (s .nets)) (shownIn n placement)
-  unfolding shownIn
+  unfolding shownIn marginOf
   shown-margins zero = tt
   shown-margins (suc n) = all-append _ (shownIn n placement) _ (shown-margins n) (margin-nets (groupOf (suc n) placement), tt)
 

@@ -6,7 +6,7 @@ use native.Mathlib.Omega.{arith}
 use lib.ListN.{length, take, length-map}
 use borrow.Author.Tests.{le-leb}
 use Rattle.records.specs.declared.refusals.Refusal.{Refusal}
-use Rattle.records.specs.Tables.{tableChecks}
+use Rattle.records.specs.Tables.{tableChecks, legsOf}
 use Rattle.records.specs.declared.tables.Kind.the-variants.{Placement}
 use Rattle.records.proofs.PassLaws.{clear, unclear, pass-left}
 use Rattle.records.proofs.PutLaws.{put-holds, put-front}
