@@ -9,6 +9,7 @@ use records::Counted;
 use records::Kind;
 use sheets::Verdict;
 use spreads::Due;
+use verdicts::LINE_BYTES;
 
 fn kind_of(name: u8) -> Kind {
     match name {
@@ -34,12 +35,12 @@ pub(crate) fn margin(placement: &[u8], g: usize) {
     print(b"\n");
 }
 
-fn print_head(line: &[u8; 64], n: usize) {
+fn print_head(line: &[u8; LINE_BYTES], n: usize) {
     print(part(line, 0, n));
 }
 
 pub(crate) fn print_verdict(verdict: Verdict) {
-    let mut line = [0u8; 64];
+    let mut line = [0u8; LINE_BYTES];
     let n = verdicts::verdict_line(verdict, &mut line);
     print(b" ");
     print_head(&line, n);

@@ -8,3 +8,5 @@ pub mod PassLaws
 pub mod TableLaws
 pub mod Unique
 pub mod DateLaws
+pub mod SameLaws
+pub mod LineLaws

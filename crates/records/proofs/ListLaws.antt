@@ -8,7 +8,7 @@ use native.Mathlib.Decide.{decLe}
 use native.Mathlib.Omega.{arith}
 use lib.ListN.{length, getD, take, drop}
 use lib.Seq.{take-all, take-add, take-take, drop-at, length-take-le}
-use Rattle.records.specs.Lists.{keep, allb, All}
+use Rattle.records.specs.Lists.{keep, allOf, All}
 
 pub map-all : {A B : Type 0} (f : A → B) (P : B → Type 0) (Q : A → Type 0) (l : List A) → ((x : A) → Q x → P (f x)) → All Q l → All P (map f l)
 map-all f P Q [] h a = tt
@@ -85,35 +85,35 @@ module _ {A : Type 0} where
 
   -- ---- tests of all elements
 
-  pub allb-all : (t : A → Bool) (l : List A) → allb t l ≡ true → All (λ x. t x ≡ true) l
-  unfolding allb
-  allb-all t [] e = tt
-  allb-all t (x ∷ xs) e =
-      let p = and-eq-true-iff (t x) (allb t xs) .0 e in
-      (p .0, allb-all t xs (p .1))
+  pub allOf-all : (t : A → Bool) (l : List A) → allOf t l ≡ true → All (λ x. t x ≡ true) l
+  unfolding allOf
+  allOf-all t [] e = tt
+  allOf-all t (x ∷ xs) e =
+      let p = and-eq-true-iff (t x) (allOf t xs) .0 e in
+      (p .0, allOf-all t xs (p .1))
 
-  pub all-allb : (t : A → Bool) (l : List A) → All (λ x. t x ≡ true) l → allb t l ≡ true
-  unfolding allb
-  all-allb t [] a = refl
-  all-allb t (x ∷ xs) a = rw (a .0) (all-allb t xs (a .1))
+  pub all-allOf : (t : A → Bool) (l : List A) → All (λ x. t x ≡ true) l → allOf t l ≡ true
+  unfolding allOf
+  all-allOf t [] a = refl
+  all-allOf t (x ∷ xs) a = rw (a .0) (all-allOf t xs (a .1))
 
-  pub allb-append : (t : A → Bool) (a b : List A) → allb t (a ++ b) ≡ (allb t a && allb t b)
-  unfolding allb
-  allb-append t [] b = refl
-  allb-append t (x ∷ a) b = rw (allb-append t a b, and-assoc)
+  pub allOf-append : (t : A → Bool) (a b : List A) → allOf t (a ++ b) ≡ (allOf t a && allOf t b)
+  unfolding allOf
+  allOf-append t [] b = refl
+  allOf-append t (x ∷ a) b = rw (allOf-append t a b, and-assoc)
 
-  pub allb-and : (s t : A → Bool) (l : List A) → allb (λ x. s x && t x) l ≡ (allb s l && allb t l)
-  unfolding allb
-  allb-and s t [] = refl
-  allb-and s t (x ∷ l) = rw (allb-and s t l) (swap (s x) (t x) (allb s l) (allb t l))
+  pub allOf-and : (s t : A → Bool) (l : List A) → allOf (λ x. s x && t x) l ≡ (allOf s l && allOf t l)
+  unfolding allOf
+  allOf-and s t [] = refl
+  allOf-and s t (x ∷ l) = rw (allOf-and s t l) (swap (s x) (t x) (allOf s l) (allOf t l))
 
   -- none that passes t passes s
-  pub allb-keep : (t s : A → Bool) (l : List A) → allb (λ x. not (t x && s x)) l ≡ allb (λ x. not (s x)) (keep t l)
-  unfolding allb keep
-  allb-keep t s [] = refl
-  allb-keep t s (x ∷ l) = rw (allb-keep t s l) (go (t x))
+  pub allOf-keep : (t s : A → Bool) (l : List A) → allOf (λ x. not (t x && s x)) l ≡ allOf (λ x. not (s x)) (keep t l)
+  unfolding allOf keep
+  allOf-keep t s [] = refl
+  allOf-keep t s (x ∷ l) = rw (allOf-keep t s l) (go (t x))
     where
-      go : (c : Bool) → (not (c && s x) && allb (λ x. not (s x)) (keep t l)) ≡ allb (λ x. not (s x)) (cond c (x ∷ keep t l) (keep t l))
+      go : (c : Bool) → (not (c && s x) && allOf (λ x. not (s x)) (keep t l)) ≡ allOf (λ x. not (s x)) (cond c (x ∷ keep t l) (keep t l))
       go true = refl
       go false = refl
 

@@ -7,7 +7,7 @@ use native.Mathlib.Nat.{le-trans, le-max-left, le-max-right}
 use native.Mathlib.Decide.{decLe}
 use native.Mathlib.Omega.{arith}
 use lib.ListN.{length}
-use Rattle.records.specs.Lists.{only, sum, most, keep, All}
+use Rattle.records.specs.Lists.{only, sumOf, most, keep, All}
 use Rattle.records.proofs.ListLaws.{all-map, every}
 
 pub only-split : (b : Bool) (n : ℕ) → n ≡ only b n + only (not b) n
@@ -25,13 +25,13 @@ most-map f g h e (x ∷ l) = omega (arith, e x, most-map f g h e l)
 
 module _ {A : Type 0} where
   -- c times a sum is a times another and b times a third, where that holds at each element
-  pub sum-lin : (c a b : ℕ) (f g h : A → ℕ) (l : List A) → All (λ x. c * f x ≡ a * g x + b * h x) l → c * sum f l ≡ a * sum g l + b * sum h l
-  unfolding sum
+  pub sum-lin : (c a b : ℕ) (f g h : A → ℕ) (l : List A) → All (λ x. c * f x ≡ a * g x + b * h x) l → c * sumOf f l ≡ a * sumOf g l + b * sumOf h l
+  unfolding sumOf
   sum-lin c a b f g h [] e = omega arith
   sum-lin c a b f g h (x ∷ xs) e = omega (arith, e .0, sum-lin c a b f g h xs (e .1))
 
-  pub sum-none : (f : A → ℕ) (n : ℕ) → sum f [] ≤ n
-  unfolding sum
+  pub sum-none : (f : A → ℕ) (n : ℕ) → sumOf f [] ≤ n
+  unfolding sumOf
   sum-none f n = omega arith
 
   pub most-all : (f : A → ℕ) (l : List A) → All (λ x. f x ≤ most f l) l
@@ -53,22 +53,22 @@ module _ {A : Type 0} where
   most-bound f b [] a = omega arith
   most-bound f b (x ∷ xs) a = omega (arith, a .0, most-bound f b xs (a .1))
 
-  pub sum-ext : (f g : A → ℕ) (l : List A) → All (λ x. f x ≡ g x) l → sum f l ≡ sum g l
-  unfolding sum
+  pub sum-ext : (f g : A → ℕ) (l : List A) → All (λ x. f x ≡ g x) l → sumOf f l ≡ sumOf g l
+  unfolding sumOf
   sum-ext f g [] e = refl
   sum-ext f g (x ∷ xs) e = omega (arith, e .0, sum-ext f g xs (e .1))
 
-  pub sum-keep : (f : A → ℕ) (t : A → Bool) (l : List A) → sum f (keep t l) ≡ sum (λ x. only (t x) (f x)) l
-  unfolding sum keep
+  pub sum-keep : (f : A → ℕ) (t : A → Bool) (l : List A) → sumOf f (keep t l) ≡ sumOf (λ x. only (t x) (f x)) l
+  unfolding sumOf keep
   sum-keep f t [] = refl
   sum-keep f t (x ∷ xs) = go (t x) (sum-keep f t xs)
     where
-      go : (b : Bool) → sum f (keep t xs) ≡ sum (λ x. only (t x) (f x)) xs → sum f (cond b (x ∷ keep t xs) (keep t xs)) ≡ only b (f x) + sum (λ x. only (t x) (f x)) xs
+      go : (b : Bool) → sumOf f (keep t xs) ≡ sumOf (λ x. only (t x) (f x)) xs → sumOf f (cond b (x ∷ keep t xs) (keep t xs)) ≡ only b (f x) + sumOf (λ x. only (t x) (f x)) xs
       go true e = omega arith
       go false e = omega arith
 
   -- those that pass a test, and the rest
-  pub sum-split : (f : A → ℕ) (t : A → Bool) (l : List A) → sum f l ≡ sum (λ x. only (t x) (f x)) l + sum f (keep (λ x. not (t x)) l)
+  pub sum-split : (f : A → ℕ) (t : A → Bool) (l : List A) → sumOf f l ≡ sumOf (λ x. only (t x) (f x)) l + sumOf f (keep (λ x. not (t x)) l)
   sum-split f t l =
       omega (
         arith,
@@ -77,20 +77,20 @@ module _ {A : Type 0} where
             (every l (λ x. omega (arith, only-split (t x) (f x)))),
       )
 
-  pub sum-step : (f : A → ℕ) (x : A) (l ls : List A) → l ≡ x ∷ ls → sum f l ≡ f x + sum f ls
-  unfolding sum
+  pub sum-step : (f : A → ℕ) (x : A) (l ls : List A) → l ≡ x ∷ ls → sumOf f l ≡ f x + sumOf f ls
+  unfolding sumOf
   sum-step f x l ls e = rw e
 
-  pub sum-over : (f : A → ℕ) (l : List A) → l ≡ [] → sum f l ≡ 0
-  unfolding sum
+  pub sum-over : (f : A → ℕ) (l : List A) → l ≡ [] → sumOf f l ≡ 0
+  unfolding sumOf
   sum-over f l e = rw e
 
-  pub sum-append : (f : A → ℕ) (a b : List A) → sum f (a ++ b) ≡ sum f a + sum f b
-  unfolding sum
+  pub sum-append : (f : A → ℕ) (a b : List A) → sumOf f (a ++ b) ≡ sumOf f a + sumOf f b
+  unfolding sumOf
   sum-append f [] b = omega arith
   sum-append f (x ∷ a) b = omega (arith, sum-append f a b)
 
-  pub sum-bound : (f : A → ℕ) (b : ℕ) (l : List A) → All (λ x. f x ≤ b) l → sum f l ≤ b * length l
-  unfolding sum
+  pub sum-bound : (f : A → ℕ) (b : ℕ) (l : List A) → All (λ x. f x ≤ b) l → sumOf f l ≤ b * length l
+  unfolding sumOf
   sum-bound f b [] a = omega arith
   sum-bound f b (x ∷ xs) a = omega (arith, a .0, sum-bound f b xs (a .1))

@@ -9,7 +9,7 @@ use borrow.Author.Tests.{eqb-true, leb-true}
 use native.Mathlib.Nat.{mul-le-mul}
 use native.Mathlib.Omega.{arith}
 use Rattle.records.specs.Lists.{All}
-use Rattle.records.specs.Bytes.{leAt}
+use Rattle.records.specs.Bytes.{zeroIn}
 use Rattle.records.specs.Chunks.{chunkAt, recordsOf}
 use Rattle.records.specs.Within.{within}
 use Rattle.records.specs.Dates.{realDate}
@@ -78,8 +78,8 @@ ranges top l e =
 pub good-ranges : (top : ℕ) (xs : List ℕ) → goodLeg top xs ≡ true → Ranges top (legOf xs)
 unfolding goodLeg
 good-ranges top xs e =
-    let p = and-eq-true-iff (eqb (length xs) 32) (inRange top (legOf xs) && eqb (leAt xs 24 8) 0) .0 e in
-    ranges top (legOf xs) (and-eq-true-iff (inRange top (legOf xs)) (eqb (leAt xs 24 8) 0) .0 (p .1) .0)
+    let p = and-eq-true-iff (eqb (length xs) 32) (inRange top (legOf xs) && zeroIn xs 24 31) .0 e in
+    ranges top (legOf xs) (and-eq-true-iff (inRange top (legOf xs)) (zeroIn xs 24 31) .0 (p .1) .0)
 
 -- a leg's units are at most 100,000,000, and at least one
 pub units-small : (top : ℕ) (l : Leg) → Ranges top l → (1 ≤ units l) × (units l ≤ 100000000)
@@ -94,14 +94,12 @@ pub claim-ranges : (xs : List ℕ) → goodClaim xs ≡ true → ClaimRanges (cl
 unfolding goodClaim
 claim-ranges xs e =
     let p = and-eq-true-iff (eqb (length xs) 32) _ .0 e in
-    let p5 = and-eq-true-iff _ _ .0 (p .1) in
-    let p4 = and-eq-true-iff _ _ .0 (p5 .0) in
-    let p3 = and-eq-true-iff _ _ .0 (p4 .0) in
+    let p3 = and-eq-true-iff _ _ .0 (p .1) in
     let p2 = and-eq-true-iff _ _ .0 (p3 .0) in
     let p1 = and-eq-true-iff _ _ .0 (p2 .0) in
     record {
       group = within-true 1 32 (claimOf xs .group) (p1 .0);
-      margin = leb-true (claimOf xs .margin) mostMills (p3 .1);
+      margin = leb-true (claimOf xs .margin) mostMills (p2 .1);
     }
 
 -- ---- a whole table

@@ -7,6 +7,7 @@ use Rattle.records.specs.Bytes.{leAt}
 use Rattle.records.specs.Chunks.{chunkAt}
 use Rattle.records.specs.Legs.{legOf, unitsOf, plusUnits}
 use Rattle.records.specs.Claims.{claimOf}
+use Rattle.records.specs.Lines.{sameLine, sameLineSide}
 use Rattle.records.specs.Order.{firstOf}
 use Rattle.records.specs.Tables.{tableNumber, wholeTables, fieldChecks, fieldsChecks, countedOf}
 use Rattle.records.specs.declared.counts.Contracts.{Contracts}
@@ -35,6 +36,12 @@ units-unique c size r s = one-outcome
 
 plus-unique : (a b r s : Units) → r ≡ plusUnits a b → s ≡ plusUnits a b → r ≡ s
 plus-unique a b r s = one-outcome
+
+same-line-unique : (a b : Leg) (r s : Bool) → r ≡ sameLine a b → s ≡ sameLine a b → r ≡ s
+same-line-unique a b r s = one-outcome
+
+same-line-side-unique : (a b : Leg) (r s : Bool) → r ≡ sameLineSide a b → s ≡ sameLineSide a b → r ≡ s
+same-line-side-unique a b r s = one-outcome
 
 table-number-unique : (kind : Kind) (r s : ℕ) → r ≡ tableNumber kind → s ≡ tableNumber kind → r ≡ s
 table-number-unique kind r s = one-outcome

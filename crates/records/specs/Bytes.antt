@@ -1,9 +1,19 @@
--- 'Numbers in every record and block are little-endian.'
-use Prim.Native.Nat.{ℕ, zero, suc, _+_, _*_}
+-- Bytes of a record or a block: the numbers they say, 'little-endian', and the places that are zero.
+use Prim.Native.Nat.{ℕ, zero, suc, _+_, _-_, _*_}
+use mathlib.Core.Bool.{Bool}
 use mathlib.Core.List.{List}
-use lib.ListN.{getD}
+use lib.Dec.{eqb}
+use lib.ListN.{getD, take, drop}
+use Rattle.records.specs.Lists.{allOf}
 
 -- the number whose bytes, lowest first, are the `width` entries of xs from `at` on; past the end of xs they are zero
 unfoldable pub leAt : List ℕ → ℕ → ℕ → ℕ
 leAt xs at zero = 0
 leAt xs at (suc width) = getD xs at 0 + 256 * leAt xs (at + 1) width
+
+abbrev pub isZero : ℕ → Bool
+isZero x = eqb x 0
+
+-- the bytes `first` to `last` are zero
+unfoldable pub zeroIn : List ℕ → ℕ → ℕ → Bool
+zeroIn xs first last = allOf isZero (take (last + 1 - first) (drop first xs))

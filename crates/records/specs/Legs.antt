@@ -1,10 +1,10 @@
 -- A leg record of 32 bytes: document 01's table of fields, row by row.
 use Prim.Native.Nat.{ℕ, _+_, _*_, min}
 use mathlib.Core.Bool.{Bool, _&&_, cond}
-use mathlib.Core.List.{List}
+use mathlib.Core.List.{List, []}
 use lib.Dec.{eqb, leb}
 use lib.ListN.{length}
-use Rattle.records.specs.Bytes.{leAt}
+use Rattle.records.specs.Bytes.{leAt, zeroIn}
 use Rattle.records.specs.Within.{within}
 use Rattle.records.specs.Dates.{realDate}
 use Rattle.records.specs.declared.counts.Contracts.{Contracts}
@@ -30,25 +30,9 @@ legFields xs =
       contracts = contractsFrom (leAt xs 20 4);
     }
 
--- no field at all
-abbrev pub blankLeg : Leg
-blankLeg =
-    record {
-      group = 0;
-      side = 0;
-      right = 0;
-      style = 0;
-      market = 0;
-      size = 0;
-      underlying = 0;
-      strike = 0;
-      expiry = 0;
-      contracts = contractsFrom 0;
-    }
-
--- the fields of a part of at least 32 bytes; a shorter one has none
+-- the fields of a part of at least 32 bytes; those of a shorter one are all zero, as of no bytes
 unfoldable pub legOf : List ℕ → Leg
-legOf xs = cond (leb 32 (length xs)) (legFields xs) blankLeg
+legOf xs = legFields (cond (leb 32 (length xs)) xs [])
 
 -- each field's range; the group is at most `top`
 unfoldable pub inRange : ℕ → Leg → Bool
@@ -66,7 +50,7 @@ inRange top l =
 
 -- 32 bytes, each field in its range, bytes 24 to 31 zero
 unfoldable pub goodLeg : ℕ → List ℕ → Bool
-goodLeg top xs = eqb (length xs) 32 && (inRange top (legOf xs) && eqb (leAt xs 24 8) 0)
+goodLeg top xs = eqb (length xs) 32 && (inRange top (legOf xs) && zeroIn xs 24 31)
 
 -- ---- what a leg's fields mean
 

@@ -2,6 +2,14 @@
 use mathlib.Core.Bool.{Bool, true, false, cond, _&&_}
 use mathlib.Core.List.{List, [], _∷_}
 use Prim.Native.Nat.{ℕ, _+_, min, max}
+use lib.Dec.{eqb}
+
+-- whether two lists are one
+unfoldable pub same : List ℕ → List ℕ → Bool
+same [] [] = true
+same [] (y ∷ ys) = false
+same (x ∷ xs) [] = false
+same (x ∷ xs) (y ∷ ys) = eqb x y && same xs ys
 
 -- x where the test passes, and otherwise nothing
 abbrev pub only : Bool → ℕ → ℕ
@@ -10,9 +18,9 @@ only false x = 0
 
 module _ {A : Type 0} where
   -- f added up over the list
-  unfoldable pub sum : (A → ℕ) → List A → ℕ
-  sum f [] = 0
-  sum f (x ∷ xs) = f x + sum f xs
+  unfoldable pub sumOf : (A → ℕ) → List A → ℕ
+  sumOf f [] = 0
+  sumOf f (x ∷ xs) = f x + sumOf f xs
 
   -- the greatest of 0 and f at each element
   unfoldable pub most : (A → ℕ) → List A → ℕ
@@ -30,9 +38,9 @@ module _ {A : Type 0} where
   keep t (x ∷ xs) = cond (t x) (x ∷ keep t xs) (keep t xs)
 
   -- each element passes the test
-  unfoldable pub allb : (A → Bool) → List A → Bool
-  allb t [] = true
-  allb t (x ∷ xs) = t x && allb t xs
+  unfoldable pub allOf : (A → Bool) → List A → Bool
+  allOf t [] = true
+  allOf t (x ∷ xs) = t x && allOf t xs
 
   -- P holds of each element
   abbrev pub All : (A → Type 0) → List A → Type 0

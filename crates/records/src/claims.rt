@@ -51,9 +51,7 @@ pub(crate) fn good_claim(part: &[u8]) -> bool
     }
     let claim = claim_fields(part);
     is_within(1, MOST_GROUPS as u32, claim.group as u32)
-        & (u16_in(part, 2) == 0)
-        & (u32_in(part, 4) == 0)
+        & ((u16_in(part, 2) == 0) & (u32_in(part, 4) == 0))
         & (claim.margin <= MOST_MILLS)
-        & (u64_in(part, 16) == 0)
-        & (u64_in(part, 24) == 0)
+        & ((u64_in(part, 16) == 0) & (u64_in(part, 24) == 0))
 }

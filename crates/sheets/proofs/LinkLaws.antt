@@ -1,7 +1,7 @@
 -- The search from link to link finds a record of the leg's line and side where there is one.
 use Prim.Native.Nat.{ℕ, suc, _+_, _*_, _%_, _≤_, _<_}
 use mathlib.Core.Path.{_≡_, refl, sym, ap, _∙_}
-use mathlib.Core.Bool.{Bool, true, false}
+use mathlib.Core.Bool.{Bool, true, false, false≢true}
 use mathlib.Core.List.{List}
 use native.Mathlib.Nat.{not-suc-le-zero}
 use native.Mathlib.Omega.{arith}
@@ -10,23 +10,23 @@ use lib.ListN.{length, getD, set, length-set}
 use lib.Seq.{getD-set-same, getD-set-other}
 use borrow.Author.Tests.{eqb-true, eqb-false}
 use borrow.Author.Count.{below-more}
+use Rattle.records.specs.Lines.{sameLineSide}
 use Rattle.records.specs.declared.legs.Leg.{Leg}
-use Rattle.sheets.specs.Lines.{sameLineSide}
+use Rattle.records.proofs.LineLaws.{same?, line-sym, line-swap}
 use Rattle.sheets.specs.Numbered.{alike, Numbered}
 use Rattle.sheets.specs.Links.{bucketOf, digitsOf, restOf, linkBelow, Unlinked, Rising, Ends}
 use Rattle.sheets.specs.Links as links-of
-use Rattle.sheets.specs.declared.numbers.Digits.{Digits}
-use Rattle.sheets.proofs.LineLaws.{same-line}
-use Rattle.sheets.proofs.NumberLaws.{true-false, same-sym, same-swap, numbered-none, numbered-new, numbered-old}
+use Rattle.sheets.specs.declared.links.Digits.{Digits}
+use Rattle.sheets.proofs.NumberLaws.{numbered-none, numbered-new, numbered-old}
 
 -- legs of one line and side have the same bucket and the same digits
 same-bucket : (x y : Leg) → sameLineSide x y ≡ true → bucketOf x ≡ bucketOf y
 unfolding bucketOf
-same-bucket x y e = let l = same-line x y e in cc
+same-bucket x y e = let l = same? x y .0 e in cc
 
 same-digits : (x y : Leg) → sameLineSide x y ≡ true → digitsOf x ≡ digitsOf y
 unfolding digitsOf
-same-digits x y e = let l = same-line x y e in cc
+same-digits x y e = let l = same? x y .0 e in cc
 
 bucket-small : (k : ℕ) (x : Leg) → bucketOf x < 509 + 8 * k
 unfolding bucketOf
@@ -37,7 +37,7 @@ unfolding linkBelow
 below-small k j d h = omega arith
 
 alike-same : (leg : ℕ → Leg) (x y : Leg) → sameLineSide x y ≡ true → (j : ℕ) → alike leg y j ≡ alike leg x j
-alike-same leg x y q j = same-sym y (leg j) ∙ sym (same-swap (leg j) x y q) ∙ same-sym (leg j) x
+alike-same leg x y q j = line-sym y (leg j) ∙ sym (line-swap (leg j) x y q) ∙ line-sym (leg j) x
 
 -- ---- where a search ends
 
@@ -102,7 +102,7 @@ module _ (leg : ℕ → Leg) (links : List ℕ) (k at : ℕ) (none : getD links 
   not-missed y {d} {l} {e} (links-of.free p z) b (links-of.met j q s a) g = not-here e g (q ∙ sym p)
   not-missed y {d} {l} {e} (links-of.free p z) b (links-of.on j s a rest) g =
       let i : j ≡ k = omega (arith, here l (sym p)) in
-      true-false (sym b ∙ ap (alike leg y) (sym i) ∙ a)
+      false≢true (sym a ∙ ap (alike leg y) i ∙ b)
   not-missed y {d} {l} {e} (links-of.met j p s a) b second g = linked-elsewhere l j s (sym p)
   not-missed y {d} {l} {e} (links-of.on j s a rest) b (links-of.free q w) g = omega (arith, other l (linked-elsewhere l j s))
   not-missed y {d} {l} {e} (links-of.on j s a rest) b (links-of.met i q t c) g = omega (arith, ap (λ (m : ℕ). getD next m 0) q)
@@ -159,7 +159,7 @@ module _ (leg : ℕ → Leg) (k : ℕ) (numbers links : List ℕ) (so-far : Link
         found =
             λ y. below-more (λ i. alike leg y i ≡ true → Missed leg links y (digitsOf y) (bucketOf y) → ⊥) k
             (λ i g b m. so-far .found y i g b m)
-            (λ b m. so-far .found y j h (sym (same-swap y (leg k) (leg j) a) ∙ b) m);
+            (λ b m. so-far .found y j h (sym (line-swap y (leg k) (leg j) a) ∙ b) m);
       }
 
   pub linked-new : (v w : ℕ) → at < length links → getD links at 0 ≡ 0 → v ≡ k → w ≡ suc k → Linked leg (k + 1) (set numbers k v) (set links at w)
@@ -177,4 +177,4 @@ module _ (leg : ℕ → Leg) (k : ℕ) (numbers links : List ℕ) (so-far : Link
       }
     where
       ends-for : (y : Leg) → alike leg y k ≡ true → Ends leg links y (digitsOf y) (bucketOf y) at
-      ends-for y b = rw (same-digits y (leg k) b, same-bucket y (leg k) b) (ends-alike y (same-sym (leg k) y ∙ b) ends-here)
+      ends-for y b = rw (same-digits y (leg k) b, same-bucket y (leg k) b) (ends-alike y (line-sym (leg k) y ∙ b) ends-here)

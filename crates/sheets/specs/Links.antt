@@ -8,7 +8,7 @@ use lib.Dec.{ltb}
 use lib.ListN.{getD}
 use Rattle.records.specs.declared.legs.Leg.{Leg}
 use Rattle.sheets.specs.Numbered.{alike}
-use Rattle.sheets.specs.declared.numbers.Digits.{Digits}
+use Rattle.sheets.specs.declared.links.Digits.{Digits}
 
 -- which of 509 buckets a leg is in: legs of one line and side are in one
 unfoldable pub bucketOf : Leg → ℕ

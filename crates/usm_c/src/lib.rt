@@ -15,6 +15,7 @@ ghost use Rattle.usm_c.specs.Outcomes.{marginsWords, marginsLeft, worksh
 
 mod words;
 
+use verdicts::LINE_BYTES;
 use verdicts::TABLE_BYTES;
 use words::due_words;
 use words::listed_words;
@@ -119,7 +120,7 @@ pub extern "C" fn usm_write_file(
 
 // The line that is printed for a sheet file; the answer is its length.
 #[no_mangle]
-pub extern "C" fn usm_file_line(file: &[u8], line: &mut [u8; 64]) -> usize
+pub extern "C" fn usm_file_line(file: &[u8], line: &mut [u8; LINE_BYTES]) -> usize
     ensures { λ r. ⌜ r ≡ length (fileLine (now (file .entry))) ⌝ }
     ensures { λ _. ⌜ now (line .exit) ≡ putAt (now (line .entry)) 0 (fileLine (now (file .entry))) ⌝ }
 {

@@ -1,14 +1,18 @@
 // Reads a sheet file on standard input and prints its verdict as one line. Nothing but glue: what
 // matters is proved in `verdicts` and below it.
+use blocks::MOST_FILE_BYTES;
 use libc::STDIN_FILENO;
 use libc::STDOUT_FILENO;
+use verdicts::LINE_BYTES;
+
+// One byte more than the longest file, so that a longer one is seen to be too long.
+const INPUT_BYTES: usize = MOST_FILE_BYTES + 1;
 
 fn main() {
-    // One byte more than the longest file, so that a longer one is seen to be too long.
-    let mut input = [0u8; 19969];
+    let mut input = [0u8; INPUT_BYTES];
     let n = io::read_full(STDIN_FILENO, &mut input);
     let verdict = verdicts::check_file(&input[..n]);
-    let mut line = [0u8; 64];
+    let mut line = [0u8; LINE_BYTES];
     let k = verdicts::verdict_line(verdict, &mut line);
     io::write_all(STDOUT_FILENO, &line[..k]);
 }

@@ -13,7 +13,7 @@ use Rattle.records.proofs.OrderLaws.{first-then}
 use Rattle.records.proofs.PassLaws.{unclear}
 use Rattle.records.proofs.TableLaws.{whole, length-claims}
 use Rattle.spreads.specs.Calls.{groupChecks}
-use Rattle.spreads.specs.Spreads.{groupIn, spreadChecks}
+use Rattle.spreads.specs.Spreads.{groupIn, groupRule}
 use Rattle.spreads.specs.Steps.{Checked}
 use Rattle.spreads.specs.Strikes.{marginOf}
 use Rattle.spreads.proofs.RuleLaws.{spread-to-no-refusal}
@@ -40,8 +40,8 @@ module _ (h p c : List ℕ) (kept : Kept h p c) where
     pub kept-answered : Answered p (k + 1)
     unfolding groupChecks
     kept-answered =
-        first-then (tableChecks Placement p) (spreadChecks (k + 1) (groupIn p (k + 1))) kept-checked
-        ∙ spread-to-no-refusal (k + 1) (groupIn p (k + 1)) (kept .rule .spreads (k + 1) (omega arith) (omega (arith, length-claims c)))
+        first-then (tableChecks Placement p) (groupRule (k + 1) (legsOf p)) kept-checked
+        ∙ spread-to-no-refusal (k + 1) (legsOf p) (kept .rule .spreads (k + 1) (omega arith) (omega (arith, length-claims c)))
 
     pub kept-margin : (claim : Claim) → claim ≡ claimOf (chunkAt 32 c k) → claim .margin ≡ marginOf (groupIn p (k + 1))
     kept-margin claim e = sym (claim-at c k low claim e) ∙ kept .rule .claims (k + 1) (omega arith) (omega (arith, length-claims c))

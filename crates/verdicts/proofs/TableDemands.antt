@@ -5,7 +5,7 @@ use Prim.Native.Nat.{ℕ, zero, suc}
 use native.Mathlib.Omega.{arith}
 use lib.IntN.{pos}
 use lib.ListN.{length}
-use Rattle.records.specs.Lists.{sum, most, All}
+use Rattle.records.specs.Lists.{sumOf, most, All}
 use Rattle.records.specs.Tables.{legsOf, claimsOf}
 use Rattle.records.specs.declared.legs.Leg.{Leg}
 use Rattle.records.proofs.ListLaws.{all-append}
@@ -23,14 +23,14 @@ use Rattle.verdicts.proofs.ReadBack.{table-read, refuse-read}
 use Rattle.verdicts.proofs.Worksheets.{length-nets}
 
 module _ (placement : List Leg) where
-  shown-total : (n : ℕ) → sum (λ s. s .margin) (shownIn n placement) ≡ total n (λ g. marginOf (groupOf g placement))
-  unfolding sum shownIn total
+  shown-total : (n : ℕ) → sumOf (λ s. s .margin) (shownIn n placement) ≡ total n (λ g. marginOf (groupOf g placement))
+  unfolding sumOf shownIn total
   shown-total zero = refl
   shown-total (suc n) =
       omega (arith, sum-append (λ s. s .margin) (shownIn n placement) (shownOf (suc n) (groupOf (suc n) placement) ∷ []), shown-total n)
 
   shown-margins : (n : ℕ) → All (λ s. s .margin ≡ most lossOf (s .nets)) (shownIn n placement)
-  unfolding shownIn
+  unfolding shownIn marginOf
   shown-margins zero = tt
   shown-margins (suc n) = all-append _ (shownIn n placement) _ (shown-margins n) (margin-nets (groupOf (suc n) placement), tt)
 

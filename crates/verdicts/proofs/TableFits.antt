@@ -7,7 +7,7 @@ use lib.Dec.{leb}
 use lib.IntN.{ℤ, pos, negsuc, natAbs}
 use lib.ListN.{length, length-append}
 use Rattle.records.specs.Claims.{mostMills}
-use Rattle.records.specs.Lists.{only, sum, All}
+use Rattle.records.specs.Lists.{only, sumOf, All}
 use Rattle.records.specs.Tables.{legsOf}
 use Rattle.records.specs.declared.legs.Leg.{Leg}
 use Rattle.records.proofs.ListLaws.{every, map-all}
@@ -75,8 +75,8 @@ strikes-count (l ∷ ls) = omega (arith, insert-count (l .strike) (strikesOf ls)
 
 -- ---- the groups of a placement
 
-sum-ones : (legs : List Leg) → length legs ≡ sum (λ l. 1) legs
-unfolding sum
+sum-ones : (legs : List Leg) → length legs ≡ sumOf (λ l. 1) legs
+unfolding sumOf
 sum-ones [] = refl
 sum-ones (l ∷ ls) = omega (arith, sum-ones ls)
 
@@ -86,7 +86,7 @@ unfolding groupOf
 legs-in-groups legs n =
     omega (
       arith,
-      total-ext n (λ g. length (groupOf g legs)) (λ g. sum (λ l. 1) (groupOf g legs)) (λ g a b. sum-ones (groupOf g legs)),
+      total-ext n (λ g. length (groupOf g legs)) (λ g. sumOf (λ l. 1) (groupOf g legs)) (λ g a b. sum-ones (groupOf g legs)),
       by-group-upto (λ l. 1) (λ l. l .group) legs n,
       sum-bound (λ l. only (leb (l .group) n) 1) 1 legs (every legs (λ l. only-le (leb (l .group) n) 1)),
     )

@@ -6,14 +6,14 @@ use native.Mathlib.Omega.{arith}
 use lib.ListN.{length, take, length-map}
 use borrow.Author.Tests.{le-leb}
 use Rattle.records.specs.declared.refusals.Refusal.{Refusal}
-use Rattle.records.specs.Tables.{tableChecks}
+use Rattle.records.specs.Tables.{tableChecks, legsOf}
 use Rattle.records.specs.declared.tables.Kind.the-variants.{Placement}
 use Rattle.records.proofs.PassLaws.{clear, unclear, pass-left}
 use Rattle.records.proofs.PutLaws.{put-holds, put-front}
 use Rattle.spreads.specs.Calls.{groupChecks, strikesListed, worksheetCall, listLeft}
 use Rattle.records.specs.declared.legs.Leg.{Leg}
 use Rattle.spreads.specs.Prices.{net}
-use Rattle.spreads.specs.Spreads.{groupIn, spreadChecks}
+use Rattle.spreads.specs.Spreads.{groupIn, groupRule}
 use Rattle.spreads.specs.Steps.{Checked}
 use Rattle.spreads.specs.Strikes.{strikesOf, netsOf}
 use Rattle.spreads.specs.declared.calls.Listed.{Listed}
@@ -27,7 +27,7 @@ module _ (xs : List ℕ) (g : ℕ) (a : Answered xs g) where
   answered-checked : Checked xs
   unfolding groupChecks
   answered-checked =
-      unclear (tableChecks Placement xs) (pass-left (tableChecks Placement xs) (spreadChecks g (groupIn xs g)) (clear _ a))
+      unclear (tableChecks Placement xs) (pass-left (tableChecks Placement xs) (groupRule g (legsOf xs)) (clear _ a))
 
   pub strikes-few : length (strikesOf (groupIn xs g)) ≤ 256
   strikes-few = omega (arith, strikes-count (groupIn xs g), group-few xs answered-checked g)

@@ -3,7 +3,7 @@ use mathlib.Core.Path.{_≡_}
 use mathlib.Core.List.{List, []}
 use Prim.Native.Nat.{ℕ}
 use lib.IntN.{ℤ, pos}
-use Rattle.records.specs.Lists.{sum, most, All}
+use Rattle.records.specs.Lists.{sumOf, most, All}
 use Rattle.records.specs.Tables.{legsOf}
 use Rattle.records.specs.declared.refusals.Refusal.{Refusal}
 use Rattle.blocks.specs.File.{tablesIn}
@@ -20,7 +20,7 @@ TableReadsBack = (file : List ℕ) (n : ℕ) (total : ℤ) → fileVerdict file 
 
 -- 'a line `GROUP g margin`': the margins in the text of an accepted sheet add up to the verdict's total
 abbrev pub TableTotal : Type 0
-TableTotal = (file : List ℕ) (n total : ℕ) → fileVerdict file ≡ Accepted n (pos total) → sum (λ s. s .margin) (tableIn (tableText file)) ≡ total
+TableTotal = (file : List ℕ) (n total : ℕ) → fileVerdict file ≡ Accepted n (pos total) → sumOf (λ s. s .margin) (tableIn (tableText file)) ≡ total
 
 -- 'then a line `strike net` for each distinct strike': each margin is the greatest of 0 and the losses of the lines under it
 abbrev pub TableMargins : Type 0

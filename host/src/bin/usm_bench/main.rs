@@ -3,7 +3,7 @@
 //! Batches of the two take turns. Of each side the least and the middle time are shown, and of
 //! the ratios of neighbouring batches the middle one and the range of their middle half, so that
 //! a busy moment of the machine does not decide. Lent buffers are made once and not cleared
-//! between calls.
+//! between calls. Words after the command choose the rows whose names have one of them.
 
 #![forbid(unsafe_code)]
 
@@ -23,7 +23,9 @@ fn main() {
         "{:<44} {:>19} {:>19} {:>7} {:>20}",
         "nanoseconds", "model least, middle", "library least, mid.", "least", "middle (middle half)"
     );
-    let slower: Vec<&str> = rows::rows().into_iter().filter_map(|row| timed(row).1).collect();
+    let words: Vec<String> = std::env::args().skip(1).collect();
+    let wanted = |row: &Row| words.is_empty() || words.iter().any(|word| row.name.contains(word.as_str()));
+    let slower: Vec<&str> = rows::rows().into_iter().filter(wanted).filter_map(|row| timed(row).1).collect();
     let (nightly, behind) = timed(rows::nightly());
     // A floor has no other side to be ahead of.
     timed(rows::floor());

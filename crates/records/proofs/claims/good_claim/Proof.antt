@@ -4,6 +4,7 @@ use native.Mathlib.Omega.{arith}
 use borrow.Author.Tests.{eq-eqb, ne-eqb, le-leb}
 use Rattle.records.specs.Claims.{claimOf, goodClaim}
 use borrow.Author.Needs.{needs}
+use Rattle.records.proofs.ByteLaws.{zero-in, zero-both}
 use Rattle.records.proofs.claims.good_claim.Statement.{statement}
 use Rattle.records.proofs.claims.good_claim.Tie as tie
 
@@ -26,6 +27,10 @@ returns-2 c =
       f .claim-fields .ensures,
       eq-eqb _ _ (f .before .if1 .left),
       le-leb 32 (length part) (omega (arith, f .before .if1 .left)),
+      zero-in part 2 7 (omega arith) (omega (arith, f .before .if1 .left)),
+      zero-in part 16 31 (omega arith) (omega (arith, f .before .if1 .left)),
+      ← zero-both part 2 4 2 (omega arith),
+      ← zero-both part 8 8 16 (omega arith),
     )
 
 pub good-claim-spec : {M : Type 1} → statement M

@@ -4,6 +4,7 @@ use native.Mathlib.Omega.{arith}
 use borrow.Author.Needs.{needs}
 use borrow.Author.Tests.{eq-eqb, ne-eqb, le-leb}
 use Rattle.records.specs.Legs.{legOf, goodLeg}
+use Rattle.records.proofs.ByteLaws.{zero-in}
 use Rattle.records.proofs.legs.good_leg.Statement.{statement}
 use Rattle.records.proofs.legs.good_leg.Tie as tie
 
@@ -16,7 +17,14 @@ unfolding goodLeg legOf
 returns-2 c =
     let f = c .before .before in
     let part = now (f .before .before .before .args .part) in
-    rw (c .u64-in .ensures, c .before .in-range .ensures, f .leg-fields .ensures, eq-eqb _ _ (f .before .if1 .left), le-leb 32 (length part) (omega (arith, f .before .if1 .left)))
+    rw (
+      c .u64-in .ensures,
+      c .before .in-range .ensures,
+      f .leg-fields .ensures,
+      eq-eqb _ _ (f .before .if1 .left),
+      le-leb 32 (length part) (omega (arith, f .before .if1 .left)),
+      zero-in part 24 31 (omega arith) (omega (arith, f .before .if1 .left)),
+    )
 
 pub good-leg-spec : {M : Type 1} → statement M
 good-leg-spec =

@@ -8,8 +8,7 @@ use borrow.Author.Needs.{needs}
 use Rattle.records.specs.Order.{firstOf, askEach}
 use Rattle.records.specs.Tables.{legsOf}
 use Rattle.records.proofs.OrderLaws.{first-append}
-use Rattle.sheets.specs.Lines.{evenAt}
-use Rattle.sheets.specs.Sheets.{askLines}
+use Rattle.sheets.specs.Sheets.{evenAt, askLines}
 use Rattle.sheets.specs.Numbered.{Answered}
 use Rattle.sheets.proofs.NumberLaws.{holdings-answered, placement-answered}
 use Rattle.sheets.proofs.lines.numbered_lines_fault.Statement.{statement}

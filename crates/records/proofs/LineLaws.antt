@@ -1,0 +1,37 @@
+-- Lines and sides are the same just where they are one value.
+use mathlib.Core.Path.{_≡_, refl}
+use mathlib.Core.Bool.{Bool, true, false, _&&_, and-true, and-assoc}
+use mathlib.Core.Logic.{_↔_}
+use mathlib.Core.List.{List}
+use Prim.Native.Nat.{ℕ}
+use lib.Dec.{eqb}
+use borrow.Author.Tests.{eq-eqb}
+use Rattle.records.specs.Lists.{same}
+use Rattle.records.specs.Lines.{lineOf, lineSideOf, sameLine, sameLineSide}
+use Rattle.records.specs.declared.legs.Leg.{Leg}
+use Rattle.records.proofs.SameLaws.{same-refl, same-true, true-same, same-sym, same-swap}
+
+-- lines of one strike and one expiry are the same where the rest is
+pub line-rest : (a b : Leg) → a .strike ≡ b .strike → a .expiry ≡ b .expiry
+    → eqb (a .right) (b .right) && eqb (a .style) (b .style) && eqb (a .market) (b .market) && eqb (a .size) (b .size) && eqb (a .underlying) (b .underlying)
+    ≡ sameLine a b
+unfolding sameLine same
+line-rest a b s e = simp (eq-eqb (a .strike) (b .strike) s, eq-eqb (a .expiry) (b .expiry) e, and-true, and-assoc)
+
+pub same? : (x y : Leg) → (sameLineSide x y ≡ true) ↔ (lineSideOf x ≡ lineSideOf y)
+unfolding sameLineSide
+same? x y = (same-true (lineSideOf x) (lineSideOf y), true-same (lineSideOf x) (lineSideOf y))
+
+-- ---- one line and side is the same for all of it
+
+pub line-refl : (x : Leg) → sameLineSide x x ≡ true
+unfolding sameLineSide
+line-refl x = same-refl (lineSideOf x)
+
+pub line-sym : (x y : Leg) → sameLineSide x y ≡ sameLineSide y x
+unfolding sameLineSide
+line-sym x y = same-sym (lineSideOf x) (lineSideOf y)
+
+pub line-swap : (x y z : Leg) → sameLineSide y z ≡ true → sameLineSide x y ≡ sameLineSide x z
+unfolding sameLineSide
+line-swap x y z e = same-swap (lineSideOf x) (lineSideOf y) (lineSideOf z) e

@@ -1,0 +1,28 @@
+// The records of both tables taken as one row, holdings first.
+ghost use mathlib.Core.Path.{_≡_};
+ghost use Rattle.sheets.specs.Numbered.{legIn};
+use records::Leg;
+use records::RECORD_BYTES;
+
+// Most records of both tables, and how many are few.
+pub(crate) const MOST_BOTH: usize = 512;
+
+pub(crate) const FEW_BOTH: usize = 32;
+
+// Record k of both tables.
+pub(crate) fn leg_in(holdings: &[u8], placement: &[u8], k: usize) -> Leg
+    ensures { λ r. ⌜ r ≡ legIn (now (holdings .entry)) (now (placement .entry)) k ⌝ }
+{
+    let held = holdings.len() / RECORD_BYTES;
+    if k < held {
+        return records::leg_at(holdings, k);
+    }
+    records::leg_at(placement, k - held)
+}
+
+// A record's place in the row, kept in 16 bits.
+pub(crate) fn wide(x: u16) -> usize
+    ensures { λ r. ⌜ r ≡ x ⌝ }
+{
+    x as usize
+}

@@ -1,0 +1,96 @@
+// The first record of each line and side, found from link to link. A link is to a record, counted from 1,
+// or to none, 0; there is one for each bucket and eight for each record.
+ghost use mathlib.Core.Path.{_≡_};
+ghost use Prim.Native.Nat.{_+_, _*_, _/_, _≤_, _<_};
+ghost use lib.ListN.{length};
+ghost use Rattle.sheets.specs.Numbered.{legIn};
+ghost use Rattle.sheets.specs.Links.{bucketOf, digitsOf, restOf, linkBelow, Rising, Ends};
+use crate::both::leg_in;
+use crate::both::wide;
+use records::Leg;
+
+const BUCKETS: usize = 509;
+
+const WAYS: usize = 8;
+
+// The links of as many records as there can be, and of few.
+pub(crate) const MOST_LINKS: usize = 4605;
+
+pub(crate) const FEW_LINKS: usize = 765;
+
+fn bucket_of(leg: Leg) -> usize
+    ensures { λ r. ⌜ (r ≡ bucketOf leg) × (r < 509) ⌝ }
+{
+    let terms = leg.strike as usize
+        + 3 * (leg.expiry as usize)
+        + 31 * (leg.underlying as usize)
+        + 7 * (leg.side as usize)
+        + 5 * (leg.right as usize);
+    terms % BUCKETS
+}
+
+// A line and side as two numbers, whose digits to the base 8 say which way to go. Lines and sides in range
+// that differ do so in one of 34 digits, so that no search looks at more than 35 records.
+struct Digits {
+    these: u64,
+    those: u64,
+}
+
+fn digits_of(leg: Leg) -> Digits
+    ensures { λ r. ⌜ r ≡ digitsOf leg ⌝ }
+{
+    let terms = leg.side as u64
+        + 2 * (leg.right as u64)
+        + 4 * (leg.style as u64)
+        + 8 * (leg.market as u64);
+    Digits {
+        these: leg.strike as u64 + 134217728 * (leg.expiry as u64),
+        those: leg.underlying as u64 + 4294967296 * (leg.size as u64) + 4398046511104 * terms,
+    }
+}
+
+// The digits after the first.
+fn rest_of(digits: Digits) -> Digits
+    ensures { λ r. ⌜ r ≡ restOf digits ⌝ }
+{
+    if digits.these < 8 {
+        return Digits {
+            these: digits.those,
+            those: 0,
+        };
+    }
+    Digits {
+        these: digits.these / 8,
+        those: digits.those,
+    }
+}
+
+// The link of record j for the first digit.
+fn link_below(j: usize, digits: Digits) -> usize
+    requires { ⌜ j < 512 ⌝ }
+    ensures { λ r. ⌜ (r ≡ linkBelow j digits) × (509 + 8 * j ≤ r) × (r < 517 + 8 * j) ⌝ }
+{
+    BUCKETS + WAYS * j + (digits.these % 8) as usize
+}
+
+// The link to the first record of the leg's line and side, or the free one where such a record belongs.
+pub(crate) fn link_of(leg: Leg, holdings: &[u8], placement: &[u8], links: &[u16]) -> usize
+    requires { ⌜ (length (now holdings) / 32 + length (now placement) / 32 ≤ 512) × (509 + 8 * (length (now holdings) / 32 + length (now placement) / 32) ≤ length (now links)) ⌝ }
+    requires { ⌜ Rising (length (now holdings) / 32 + length (now placement) / 32) (now links) ⌝ }
+    ensures { λ r. ⌜ Ends (legIn (now (holdings .entry)) (now (placement .entry))) (now (links .entry)) leg (digitsOf leg) (bucketOf leg) r ⌝ }
+{
+    let mut link = bucket_of(leg);
+    let mut digits = digits_of(leg);
+    loop {
+        let at = wide(links[link]);
+        if at == 0 {
+            return link;
+        }
+        let j = at - 1;
+        if records::same_line_side(leg, leg_in(holdings, placement, j)) {
+            return link;
+        }
+        link = link_below(j, digits);
+        digits = rest_of(digits);
+    }
+}

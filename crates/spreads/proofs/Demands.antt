@@ -1,0 +1,81 @@
+-- The statements of specs/Demands.antt, each with the law that proves it.
+use Prim.Native.Nat.{ℕ}
+use mathlib.Core.Path.{_≡_, refl, sym, _∙_}
+use mathlib.Core.Bool.{Bool, _&&_}
+use mathlib.Core.List.{List, [], _∷_, _++_}
+use native.Mathlib.Omega.{arith}
+use lib.Dec.{leb}
+use lib.ListN.{length, length-map}
+use Rattle.records.specs.Order.{Check, ask, firstOf}
+use Rattle.records.specs.Tables.{legsOf}
+use Rattle.records.specs.declared.refusals.Fault.{Fault}
+use Rattle.records.specs.declared.refusals.Fault.the-variants.{Nothing, Is}
+use Rattle.records.proofs.PutLaws.{put-front, put-past}
+use Rattle.spreads.specs.Prices.{net}
+use Rattle.spreads.specs.Spreads.{groupIn}
+use Rattle.spreads.specs.Strikes.{strikesOf, netsOf}
+use Rattle.spreads.specs.Calls.{groupChecks, listedAnswer, listedAfter, strikesListed, worksheetCall, listLeft, marginsFrom, groupsChecks, marginsCall}
+use Rattle.spreads.specs.Demands.{SpreadJust, StrikesJust, WorstIsGreatest, Leaves, WorksheetLeaves, MarginsLeave, JoiningCosts}
+use Rattle.spreads.specs.declared.calls.Listed.{Listed}
+use Rattle.spreads.specs.declared.calls.Listed.the-variants.{Entries, Refused}
+use Rattle.spreads.proofs.RuleLaws.{no-refusal-to-spread, spread-to-no-refusal}
+use Rattle.spreads.proofs.StrikeLaws.{strikes-have, strikes-from, strikes-ascending}
+use Rattle.spreads.proofs.Nets.{worst-greatest}
+use Rattle.spreads.proofs.MarginLists.{length-margins}
+use Rattle.spreads.proofs.Merge.{merge-groups}
+
+pub spread-just : SpreadJust
+spread-just g placement = (no-refusal-to-spread g placement, spread-to-no-refusal g placement)
+
+pub strikes-just : StrikesJust
+strikes-just legs = (strikes-have legs, strikes-from legs, strikes-ascending legs)
+
+pub worst-is-greatest : WorstIsGreatest
+worst-is-greatest = worst-greatest
+
+-- ---- what is left in a lent slice
+
+-- a call that lists answers how many entries it lists
+entries-are : (f : Fault) (k n : ℕ) → listedAnswer f k ≡ Entries n → n ≡ k
+entries-are Nothing k n e = cc
+entries-are (Is r) k n e = let z : _≡_ {A = ℕ} 0 1 = cc in absurd (omega arith)
+
+entries-after : (cs : List Check) (room : Bool) (k n : ℕ) → listedAfter cs room k ≡ Entries n → n ≡ k
+entries-after cs room k n = entries-are (firstOf (cs ++ ask room 17 0 k ∷ [])) k n
+
+leaves : {A : Type 0} (answer : Listed) (entries before : List A) → ((n : ℕ) → answer ≡ Entries n → n ≡ length entries)
+    → Leaves answer entries before (listLeft answer entries before)
+leaves (Entries n) entries before h = rw (h n refl) (put-front before entries, put-past before entries)
+leaves (Refused r) entries before h = refl
+
+module _ (placement : List ℕ) (g a b : ℕ) where
+  worksheet-strikes : (n : ℕ) → worksheetCall placement g a b ≡ Entries n → n ≡ length (strikesOf (groupIn placement g))
+  unfolding strikesListed
+  worksheet-strikes n e =
+      let k = length (strikesOf (groupIn placement g)) in
+      entries-after (groupChecks placement g) (leb k a && leb k b) k n e
+
+  worksheet-nets : (n : ℕ) → worksheetCall placement g a b ≡ Entries n → n ≡ length (netsOf (groupIn placement g))
+  unfolding netsOf
+  worksheet-nets n e = worksheet-strikes n e ∙ sym (length-map (strikesOf (groupIn placement g)) (net (groupIn placement g)))
+
+pub worksheet-leaves : WorksheetLeaves
+worksheet-leaves placement g strikes nets =
+    let a = length strikes in
+    let b = length nets in
+    let answer = worksheetCall placement g a b in (
+      leaves answer (strikesOf (groupIn placement g)) strikes (worksheet-strikes placement g a b),
+      leaves answer (netsOf (groupIn placement g)) nets (worksheet-nets placement g a b),
+    )
+
+margins-listed : (placement : List ℕ) (n room m : ℕ) → marginsCall placement n room ≡ Entries m → m ≡ length (marginsFrom (legsOf placement) 1 n)
+unfolding marginsCall
+margins-listed placement n room m e =
+    entries-after (groupsChecks placement n) (leb n room) n m e ∙ sym (length-margins (legsOf placement) 1 n)
+
+pub margins-leave : MarginsLeave
+margins-leave placement n out =
+    leaves (marginsCall placement n (length out)) (marginsFrom (legsOf placement) 1 n) out (margins-listed placement n (length out))
+
+pub joining-costs : JoiningCosts
+joining-costs = merge-groups

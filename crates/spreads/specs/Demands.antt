@@ -1,0 +1,70 @@
+-- What is demanded of one group and of the calls about it, each statement under its sentence. The proofs stand in
+-- proofs/Demands.antt. That margins cover every price, and that none smaller does, is said of sheets, in their own crate.
+use Prim.Native.Nat.{ℕ, _+_, _≤_, _<_}
+use mathlib.Core.Path.{_≡_}
+use mathlib.Core.Bool.{_||_}
+use mathlib.Core.Logic.{_↔_, _≢_}
+use mathlib.Core.List.{List, [], _∷_, map, List·Memᴰ}
+use lib.Dec.{eqb}
+use lib.IntN.{ℤ, pos, negℤ}
+use lib.ListN.{length, take, drop}
+use lib.Signed.{_≤ℤ_}
+use Rattle.records.specs.Lists.{keep, All}
+use Rattle.records.specs.Order.{firstOf}
+use Rattle.records.specs.Tables.{legsOf}
+use Rattle.records.specs.declared.legs.Leg.{Leg}
+use Rattle.records.specs.declared.refusals.Fault.the-variants.{Nothing}
+use Rattle.spreads.specs.Spreads.{groupOf, groupIn, Spread, groupRule}
+use Rattle.spreads.specs.Strikes.{strikesOf, worstLoss, netsOf}
+use Rattle.spreads.specs.Calls.{worksheetCall, listLeft, marginsFrom, marginsCall}
+use Rattle.spreads.specs.declared.calls.Listed.{Listed}
+use Rattle.spreads.specs.declared.calls.Listed.the-variants.{Entries, Refused}
+
+-- 'They are a spread when all hold': just then 6 to 13 refuse nothing
+abbrev pub SpreadJust : Type 0
+SpreadJust = (g : ℕ) (placement : List Leg) → (firstOf (groupRule g placement) ≡ Nothing) ↔ Spread g (groupOf g placement)
+
+-- each above the one before
+abbrev pub Ascending : List ℕ → Type 0
+Ascending [] = Unit {0}
+Ascending (k ∷ ks) = All (λ j. k < j) ks × Ascending ks
+
+-- 'the group's distinct strikes, ascending': the strike of every leg, and no other
+abbrev pub StrikesJust : Type 0
+StrikesJust = (legs : List Leg) → All (λ l. List·Memᴰ (l .strike) (strikesOf legs)) legs
+    × All (λ k. (l : Leg) × List·Memᴰ l legs × (l .strike ≡ k)) (strikesOf legs)
+    × Ascending (strikesOf legs)
+
+-- 'the greatest of 0 and the losses (net negated)', of the nets that the worksheet lists
+abbrev pub Greatest : ℤ → List ℤ → Type 0
+Greatest z zs = List·Memᴰ z zs × All (λ y. y ≤ℤ z) zs
+
+abbrev pub WorstIsGreatest : Type 0
+WorstIsGreatest = (legs : List Leg) → Greatest (pos (worstLoss legs)) (pos 0 ∷ map negℤ (netsOf legs))
+
+-- 'Nothing lent is written' on a refusal. 'In every call that succeeds, what lies past its output in a lent slice stays.'
+module _ {A : Type 0} where
+  abbrev pub Leaves : Listed → List A → List A → List A → Type 0
+  Leaves (Entries n) entries before after = (take n after ≡ entries) × (drop n after ≡ drop n before)
+  Leaves (Refused r) entries before after = after ≡ before
+
+abbrev pub WorksheetLeaves : Type 0
+WorksheetLeaves = (placement : List ℕ) (g : ℕ) (strikes : List ℕ) (nets : List ℤ)
+    → (let answer = worksheetCall placement g (length strikes) (length nets) in
+    let legs = groupIn placement g in
+    Leaves answer (strikesOf legs) strikes (listLeft answer (strikesOf legs) strikes) × Leaves answer (netsOf legs) nets (listLeft answer (netsOf legs) nets))
+
+abbrev pub MarginsLeave : Type 0
+MarginsLeave = (placement : List ℕ) (n : ℕ) (out : List ℤ)
+    → (let answer = marginsCall placement n (length out) in
+    let margins = marginsFrom (legsOf placement) 1 n in
+    Leaves answer margins out (listLeft answer margins out))
+
+-- the legs of groups g and k taken together, in the placement's order
+unfoldable pub merged : ℕ → ℕ → List Leg → List Leg
+merged g k legs = keep (λ l. eqb (l .group) g || eqb (l .group) k) legs
+
+-- joining two groups that are spreads never costs more than the two by themselves
+abbrev pub JoiningCosts : Type 0
+JoiningCosts = (g k : ℕ) (placement : List Leg) → g ≢ k → Spread g (groupOf g placement) → Spread k (groupOf k placement)
+    → worstLoss (merged g k placement) ≤ worstLoss (groupOf g placement) + worstLoss (groupOf k placement)
