@@ -31,8 +31,8 @@
  *               sets no errno. Calls may be made from any number of threads at once, with
  *               shared inputs, as long as each has an `answer` and buffers of its own.
  *   Stack       A call needs less than USM_STACK_BYTES of stack, whatever it is given; there is
- *               no recursion. (usm_check_file, usm_file_line and usm_file_table take about half of
- *               it, the others a quarter at most.)
+ *               no recursion. (usm_file_table takes under two thirds of it, usm_check_file and
+ *               usm_file_line about half, the others a quarter at most.)
  *
  * What each call answers and leaves in what it is lent is proved; how pointers, threads and the
  * stack behave is tested, in C and in C++, on each build of the library.

@@ -64,7 +64,7 @@ pub(crate) fn file(memory: &[u8], sizes: &[usize]) {
     print_verdict(verdicts::check_file(table(memory, sizes, b'f')));
 }
 
-fn print_text(text: &[u8], n: usize) {
+fn print_text(text: &[u8; TABLE_BYTES], n: usize) {
     print_kept(kept(text, n));
     print(part(text, 0, n));
 }
