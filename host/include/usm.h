@@ -25,13 +25,13 @@
  *                 success  { 0, ... }  the results, as told at each call
  *                 refusal  { number, table, place, 0 }, number 1 to 17
  *               table: 0 none, 1 holdings, 2 placement, 3 claims.
- *   Buffers     On a refusal nothing lent is written but `answer`. On success what lies
- *               past the output stays as it was.
+ *   Buffers     On a refusal nothing lent is written but `answer`, and the `line` and `text` of
+ *               the two calls that print. On success what lies past the output stays as it was.
  *   Threads     No call keeps any state: the library has no variables, takes no memory and
  *               sets no errno. Calls may be made from any number of threads at once, with
  *               shared inputs, as long as each has an `answer` and buffers of its own.
- *   Stack       A call needs less than USM_STACK_BYTES of stack, whatever it is given; there is
- *               no recursion. (usm_file_table takes under two thirds of it, usm_check_file and
+ *   Stack       A call needs less than USM_STACK_BYTES of stack, whatever it is given; the only
+ *               recursion is a call for each digit of a printed number. (usm_file_table takes under two thirds of it, usm_check_file and
  *               usm_file_line about half, the others a quarter at most.)
  *
  * What each call answers and leaves in what it is lent is proved; how pointers, threads and the
@@ -85,7 +85,7 @@ enum {
     USM_CLAIMS_BYTES = 1024,   /* the longest claims table */
     USM_LONGEST_FILE = 19968,
     USM_LINE_BYTES = 64,
-    USM_TABLE_BYTES = 8704,    /* the longest table has 8,608 */
+    USM_TABLE_BYTES = 8704,    /* no table is longer than 8,608 */
     USM_STACK_BYTES = 65536
 };
 
