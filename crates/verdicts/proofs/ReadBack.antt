@@ -9,9 +9,8 @@ use lib.IntN.{ℤ, pos, negsuc}
 use lib.ListN.{length}
 use borrow.Author.Tests.{eq-eqb, ne-eqb}
 use Rattle.records.specs.Lists.{All}
-use Rattle.records.specs.declared.refusals.Refusal.{Refusal}
 use Rattle.records.proofs.ListLaws.{all-map, all-append}
-use Rattle.verdicts.specs.Printed.{space, newline, line, decimalOf, amountOf, refuseWord, refuseLine}
+use Rattle.verdicts.specs.Printed.{space, newline, line, decimalOf, amountOf}
 use Rattle.verdicts.specs.TableText.{Shown, groupWord, groupLine, strikeLine, strikeLines, groupText, shownText}
 use Rattle.verdicts.specs.ReadBack.{valueOf, amountIn, partsBy, Below, linesRead, tableIn}
 use Rattle.verdicts.proofs.DecimalLaws.{IsDigit, decimal-value, decimal-digits, decimal-some}
@@ -20,10 +19,6 @@ use Rattle.verdicts.proofs.DecimalLaws.{IsDigit, decimal-value, decimal
 
 abbrev Other : ℕ → List ℕ → Type 0
 Other end w = All (λ x. eqb x end ≡ false) w
-
-parts-none : (end : ℕ) → partsBy end [] ≡ []
-unfolding partsBy
-parts-none end = refl
 
 parts-ended : (end : ℕ) (w rest : List ℕ) → Other end w → partsBy end (w ++ end ∷ rest) ≡ w ∷ partsBy end rest
 unfolding partsBy
@@ -84,17 +79,6 @@ module _ (x y : List ℕ) (wx : Word x) (wy : Word y) where
     three-line rest =
         let e : line (z ∷ x ∷ y ∷ []) ++ rest ≡ (z ++ space ∷ (x ++ space ∷ y)) ++ newline ∷ rest = simp append-assoc in
         rw e (parts-ended newline (z ++ space ∷ (x ++ space ∷ y)) rest three-on-line)
-
-    module _ (w : List ℕ) (ww : Word w) where
-      four-words : partsBy space (w ++ space ∷ (z ++ space ∷ (x ++ space ∷ y))) ≡ w ∷ z ∷ x ∷ y ∷ []
-      four-words = word-then w ww (z ++ space ∷ (x ++ space ∷ y)) ∙ ap (λ (l : List (List ℕ)). w ∷ l) three-words
-
-      four-line : partsBy newline (line (w ∷ z ∷ x ∷ y ∷ [])) ≡ (w ++ space ∷ (z ++ space ∷ (x ++ space ∷ y))) ∷ partsBy newline []
-      four-line =
-          let e : line (w ∷ z ∷ x ∷ y ∷ []) ≡ (w ++ space ∷ (z ++ space ∷ (x ++ space ∷ y))) ++ newline ∷ [] = simp append-assoc in
-          rw e
-          (parts-ended newline (w ++ space ∷ (z ++ space ∷ (x ++ space ∷ y))) []
-          (line-goes-on w ww (z ++ space ∷ (x ++ space ∷ y)) three-on-line))
 
 -- ---- the words that are printed
 
@@ -175,22 +159,3 @@ shown-read (s ∷ rest) a =
 
 pub table-read : (shown : List Shown) → All (λ s. length (s .nets) ≡ length (s .strikes)) shown → tableIn (shownText shown) ≡ shown
 table-read shown a = ap (λ (b : Below). b .groups) (shown-read shown a)
-
-refuse-word : Word refuseWord
-refuse-word = record { some = omega arith; plain = (omega arith, (omega arith, (omega arith, (omega arith, (omega arith, (omega arith, tt)))))) }
-
--- a REFUSE line has four words
-refuse-below : (r : Refusal) → below (refuseLine r) ≡ record { strikes = []; nets = []; groups = [] }
-unfolding linesRead
-refuse-below r =
-    let n = decimal-word (r .number) in
-    let t = decimal-word (r .table) in
-    let p = decimal-word (r .place) in
-    rw (
-      four-line (decimalOf (r .table)) (decimalOf (r .place)) t p (decimalOf (r .number)) n refuseWord refuse-word,
-      four-words (decimalOf (r .table)) (decimalOf (r .place)) t p (decimalOf (r .number)) n refuseWord refuse-word,
-      parts-none newline,
-    )
-
-pub refuse-read : (r : Refusal) → tableIn (refuseLine r) ≡ []
-refuse-read r = ap (λ (b : Below). b .groups) (refuse-below r)

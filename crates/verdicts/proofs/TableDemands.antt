@@ -17,9 +17,9 @@ use Rattle.spreads.proofs.Nets.{margin-nets}
 use Rattle.sheets.specs.Sheets.{claimFor, totalOf}
 use Rattle.sheets.proofs.Groups.{total, total-ext, total-claims}
 use Rattle.verdicts.specs.TableText.{shownOf, shownIn, tableText}
-use Rattle.verdicts.specs.TableDemands.{TableReadsBack, TableTotal, TableMargins, RefusedShowsNone}
+use Rattle.verdicts.specs.TableDemands.{TableReadsBack, TableTotal, TableMargins, RefusedPrints}
 use Rattle.verdicts.proofs.Demands.{file-just}
-use Rattle.verdicts.proofs.ReadBack.{table-read, refuse-read}
+use Rattle.verdicts.proofs.ReadBack.{table-read}
 use Rattle.verdicts.proofs.Worksheets.{length-nets}
 
 module _ (placement : List Leg) where
@@ -63,6 +63,6 @@ table-total file n amount e =
 pub table-margins : TableMargins
 table-margins file n total e = rw (table-reads-back file n (pos total) e) (shown-margins (legsOf (tablesIn file .placement)) n)
 
-pub refused-shows-none : RefusedShowsNone
+pub refused-prints : RefusedPrints
 unfolding tableText
-refused-shows-none file r e = rw e (refuse-read r)
+refused-prints file r e = rw e

@@ -1,4 +1,4 @@
--- The longest table: 32 lines of groups of at most 29 bytes each, and 256 lines of strikes of at most 30, are 8,608 bytes.
+-- Every table fits: 32 lines of groups of at most 29 bytes each, and 256 lines of strikes of at most 30, are 8,608 bytes.
 use mathlib.Core.Path.{_≡_, refl, ap}
 use mathlib.Core.List.{List, [], _∷_}
 use Prim.Native.Nat.{ℕ, zero, suc, _+_, _*_, _≤_, _<_}
@@ -124,6 +124,6 @@ module _ (xs : List ℕ) (p : Checked xs) where
         groups-short n (omega arith),
       )
 
-  -- the longest text
+  -- no text is longer
   pub shown-fits : (n : ℕ) → n ≤ 32 → length (shownText (shownIn n (legsOf xs))) ≤ 8608
   shown-fits n h = omega (arith, groups-short n h, legs-in-groups (legsOf xs) n, table-few xs p)

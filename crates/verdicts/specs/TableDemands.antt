@@ -1,6 +1,6 @@
 -- What is demanded of the table: document 02, [1]. The proofs stand in proofs/TableDemands.antt.
 use mathlib.Core.Path.{_≡_}
-use mathlib.Core.List.{List, []}
+use mathlib.Core.List.{List}
 use Prim.Native.Nat.{ℕ}
 use lib.IntN.{ℤ, pos}
 use Rattle.records.specs.Lists.{sumOf, most, All}
@@ -10,10 +10,11 @@ use Rattle.blocks.specs.File.{tablesIn}
 use Rattle.spreads.specs.Strikes.{lossOf}
 use Rattle.sheets.specs.declared.sheet.Verdict.the-variants.{Accepted, Refused}
 use Rattle.verdicts.specs.FileVerdicts.{fileVerdict}
+use Rattle.verdicts.specs.Printed.{refuseLine}
 use Rattle.verdicts.specs.ReadBack.{tableIn}
 use Rattle.verdicts.specs.TableText.{shownIn, tableText}
 
--- numbers printed read back: the text of an accepted sheet says each group, margin, strike and net, and no other
+-- numbers printed read back: from the text of an accepted sheet each group, margin, strike and net is read, in order
 abbrev pub TableReadsBack : Type 0
 TableReadsBack = (file : List ℕ) (n : ℕ) (total : ℤ) → fileVerdict file ≡ Accepted n total
     → tableIn (tableText file) ≡ shownIn n (legsOf (tablesIn file .placement))
@@ -27,6 +28,6 @@ abbrev pub TableMargins : Type 0
 TableMargins = (file : List ℕ) (n total : ℕ) → fileVerdict file ≡ Accepted n (pos total)
     → All (λ s. s .margin ≡ most lossOf (s .nets)) (tableIn (tableText file))
 
--- 'A refused sheet prints only its REFUSE line': no group can be read from it
-abbrev pub RefusedShowsNone : Type 0
-RefusedShowsNone = (file : List ℕ) (r : Refusal) → fileVerdict file ≡ Refused r → tableIn (tableText file) ≡ []
+-- 'A refused sheet prints only its REFUSE line'
+abbrev pub RefusedPrints : Type 0
+RefusedPrints = (file : List ℕ) (r : Refusal) → fileVerdict file ≡ Refused r → tableText file ≡ refuseLine r

@@ -26,7 +26,7 @@ use records::RECORD_BYTES;
 use sheets::Verdict;
 use spreads::Listed;
 
-// Room for every table: the longest has 8,608 bytes.
+// Room for every table: none is longer than 8,608 bytes.
 pub const TABLE_BYTES: usize = 8704;
 
 fn put_group_line(g: u64, margin: u64, out: &mut [u8], at: usize) -> usize
