@@ -130,6 +130,11 @@ static void try_all(void)
     size_t line_len = usm_file_line(none(), 0, line);
     if (line_len != 13 || memcmp(line, "REFUSE 1 0 0\n", 13) != 0 || line[13] != UNWRITTEN)
         wrong++;
+    uint8_t text[USM_TABLE_BYTES];
+    memset(text, UNWRITTEN, sizeof text);
+    size_t text_len = usm_file_table(none(), 0, text);
+    if (text_len != 13 || memcmp(text, "REFUSE 1 0 0\n", 13) != 0 || text[13] != UNWRITTEN)
+        wrong++;
 }
 
 int main(void)

@@ -137,7 +137,7 @@ static int check(const struct sheet *sheet)
     return accepted("usm_check_sheet", answer);
 }
 
-/* The verdict on a file, as numbers and as the line the checker prints. */
+/* The verdict on a file, as numbers, as the line the checker prints, and the table shown to a customer. */
 static int check_file(const uint8_t *file, size_t file_len)
 {
     uint64_t answer[USM_ANSWER_NUMBERS];
@@ -147,6 +147,9 @@ static int check_file(const uint8_t *file, size_t file_len)
     uint8_t line[USM_LINE_BYTES];
     size_t line_len = usm_file_line(file, file_len, line);
     printf("file of %zu bytes: %.*s", file_len, (int)line_len, (const char *)line);
+    uint8_t text[USM_TABLE_BYTES];
+    size_t text_len = usm_file_table(file, file_len, text);
+    printf("%.*s", (int)text_len, (const char *)text);
     return 1;
 }
 

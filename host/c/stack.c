@@ -20,6 +20,7 @@ static uint8_t holdings[USM_LEGS_BYTES], placement[USM_LEGS_BYTES], claims[USM_C
 static uint32_t strikes[USM_MOST_LEGS];
 static int64_t nets[USM_MOST_LEGS];
 static uint8_t line[USM_LINE_BYTES];
+static uint8_t text[USM_TABLE_BYTES];
 static uint64_t answer[USM_ANSWER_NUMBERS];
 
 static void put(uint8_t *record, size_t at, size_t bytes, uint64_t value)
@@ -74,6 +75,7 @@ static void write_file(void)
                    file, sizeof file, answer);
 }
 static void file_line(void) { usm_file_line(file, file_len, line); }
+static void file_table(void) { usm_file_table(file, file_len, text); }
 static void nothing(void) { answer[0] = 0; }
 
 static void (*call)(void);
@@ -109,14 +111,16 @@ int main(void)
     make_tables();
     write_file();
     file_len = (size_t)answer[1];
-    size_t share = used(nothing), most = used(file_line);
+    size_t share = used(nothing), most = used(file_line), shown = used(file_table);
+    most = shown > most ? shown : most;
     for (size_t i = 0; i < sizeof calls / sizeof *calls; i++) {
         size_t bytes = used(calls[i]);
         if (answer[0] != 0)
             return 1;
         most = bytes > most ? bytes : most;
     }
-    if (most < share || memcmp(line, "ACCEPT 32 12800\n", 16) != 0)
+    if (most < share || memcmp(line, "ACCEPT 32 12800\n", 16) != 0 ||
+        memcmp(text, "GROUP 1 400\n1 0\n", 16) != 0)
         return 1;
     printf("%zu\n", most - share);
     return 0;

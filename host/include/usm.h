@@ -17,7 +17,7 @@
  *   Pointers    Slices pass as a pointer and a length. With length 0 the pointer is not looked
  *               at, and may be NULL: an empty table, or no room, is NULL and 0, or what an empty
  *               std::vector hands out. With any other length it points to so many entries,
- *               aligned as the type asks. `answer` and `line` are never NULL. Buffers lent for
+ *               aligned as the type asks. `answer`, `line` and `text` are never NULL. Buffers lent for
  *               writing may overlap neither each other nor an input nor `answer`.
  *   Inputs      There is no other condition. Any bytes, any lengths, any numbers are
  *               answered.
@@ -25,14 +25,14 @@
  *                 success  { 0, ... }  the results, as told at each call
  *                 refusal  { number, table, place, 0 }, number 1 to 17
  *               table: 0 none, 1 holdings, 2 placement, 3 claims.
- *   Buffers     On a refusal nothing lent is written but `answer`. On success what lies
- *               past the output stays as it was.
+ *   Buffers     On a refusal nothing lent is written but `answer`, and the `line` and `text` of
+ *               the two calls that print. On success what lies past the output stays as it was.
  *   Threads     No call keeps any state: the library has no variables, takes no memory and
  *               sets no errno. Calls may be made from any number of threads at once, with
  *               shared inputs, as long as each has an `answer` and buffers of its own.
- *   Stack       A call needs less than USM_STACK_BYTES of stack, whatever it is given; there is
- *               no recursion. (usm_check_file and usm_file_line take about half of it, the
- *               others a quarter at most.)
+ *   Stack       A call needs less than USM_STACK_BYTES of stack, whatever it is given; the only
+ *               recursion is a call for each digit of a printed number. (usm_file_table takes under two thirds of it, usm_check_file and
+ *               usm_file_line about half, the others a quarter at most.)
  *
  * What each call answers and leaves in what it is lent is proved; how pointers, threads and the
  * stack behave is tested, in C and in C++, on each build of the library.
@@ -85,6 +85,7 @@ enum {
     USM_CLAIMS_BYTES = 1024,   /* the longest claims table */
     USM_LONGEST_FILE = 19968,
     USM_LINE_BYTES = 64,
+    USM_TABLE_BYTES = 8704,    /* no table is longer than 8,608 */
     USM_STACK_BYTES = 65536
 };
 
@@ -241,6 +242,15 @@ void usm_write_file(const uint8_t *holdings, size_t holdings_len,
  * `line` has USM_LINE_BYTES bytes.
  */
 size_t usm_file_line(const uint8_t *file, size_t file_len, uint8_t *line);
+
+/*
+ * The table that usm_table prints for this file, in text[0] and following, without a closing zero
+ * byte: for each group of an accepted sheet "GROUP group margin\n", then "strike net\n" for each
+ * distinct strike, ascending; of a refused one "REFUSE number table place\n" and nothing else.
+ *   returns  its length, newlines included, 0 for an accepted sheet without groups; bytes past it stay
+ * `text` has USM_TABLE_BYTES bytes.
+ */
+size_t usm_file_table(const uint8_t *file, size_t file_len, uint8_t *text);
 
 #ifdef __cplusplus
 }

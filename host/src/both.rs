@@ -17,6 +17,7 @@ pub struct Calls {
     pub read_file: fn(&[u8], &mut [u8], &mut [u8], &mut [u8]) -> Result<RecordCounts, Refusal>,
     pub write_file: fn(&[u8], &[u8], &[u8], &mut [u8]) -> Result<usize, Refusal>,
     pub file_line: fn(&[u8]) -> String,
+    pub file_table: fn(&[u8]) -> String,
 }
 
 /// The proved library, through the safe wrapper.
@@ -31,6 +32,7 @@ pub const LIBRARY: Calls = Calls {
     read_file: calls::read_file,
     write_file: calls::write_file,
     file_line: calls::file_line,
+    file_table: calls::file_table,
 };
 
 /// The independent model.
@@ -45,6 +47,7 @@ pub const MODEL: Calls = Calls {
     read_file: model::read_file,
     write_file: model::write_file,
     file_line: model::file_line,
+    file_table: model::file_table,
 };
 
 pub const BOTH: [Calls; 2] = [LIBRARY, MODEL];

@@ -143,6 +143,18 @@ pub fn file_line(file: &[u8]) -> String {
     line[..length].iter().copied().map(char::from).collect()
 }
 
+/// The table `usm_table` prints for this file: of each group its margin and the net at each strike, or
+/// the line of a refusal.
+///
+/// ```
+/// assert_eq!(usm::file_table(&[]), "REFUSE 1 0 0\n");
+/// ```
+pub fn file_table(file: &[u8]) -> String {
+    let mut text = [0; ffi::TABLE_BYTES];
+    let length = ffi::file_table(file, &mut text);
+    String::from_utf8_lossy(&text[..length]).into_owned()
+}
+
 fn accepted([groups, total, _]: [u64; 3]) -> Accepted {
     Accepted { groups, total: total as i64 }
 }

@@ -9,6 +9,9 @@
 /// The bytes of a line that [`file_line`] may fill.
 pub const LINE_BYTES: usize = 64;
 
+/// The bytes of a table that [`file_table`] may fill.
+pub const TABLE_BYTES: usize = 8704;
+
 /// The four numbers of an answer.
 pub type Answer = [u64; 4];
 
@@ -74,6 +77,8 @@ extern "C" {
     );
 
     fn usm_file_line(file: *const u8, file_len: usize, line: *mut u8) -> usize;
+
+    fn usm_file_table(file: *const u8, file_len: usize, text: *mut u8) -> usize;
 }
 
 // SAFETY, of every call below: each pointer comes from a slice or an array, with its length.
@@ -168,4 +173,8 @@ pub fn write_file(holdings: &[u8], placement: &[u8], claims: &[u8], out: &mut [u
 /// Answers the length of the line, newline included.
 pub fn file_line(file: &[u8], line: &mut [u8; LINE_BYTES]) -> usize {
     unsafe { usm_file_line(file.as_ptr(), file.len(), line.as_mut_ptr()) }
+}
+
+pub fn file_table(file: &[u8], text: &mut [u8; TABLE_BYTES]) -> usize {
+    unsafe { usm_file_table(file.as_ptr(), file.len(), text.as_mut_ptr()) }
 }

@@ -43,7 +43,8 @@ mod sheet;
 
 pub use block::{BLOCK_BYTES, LONGEST_FILE, MOST_BLOCKS};
 pub use calls::{
-    check_file, check_sheet, check_table, file_line, margin, margins, read_file, worksheet, write_file,
+    check_file, check_sheet, check_table, file_line, file_table, margin, margins, read_file, worksheet,
+    write_file,
 };
 pub use reason::Reason;
 pub use records::{

@@ -108,7 +108,7 @@ fn the_rules_stand_under_their_headings() {
     let rules = page("docs/RULES.md");
     let headings: Vec<&str> = rules.lines().filter_map(|line| line.strip_prefix("## ")).collect();
     let expected = [
-        "What is covered",
+        "What the library covers",
         "Money, units, legs",
         "The rule of a spread",
         "The rule of a sheet",
@@ -117,6 +117,7 @@ fn the_rules_stand_under_their_headings() {
         "What a signature on a promise is worth",
         "Accounts on the bench",
         "Errors that look right",
+        "Code places and their forms",
     ];
     assert_eq!(headings, expected);
     for number in 1..=17 {

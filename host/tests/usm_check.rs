@@ -4,43 +4,15 @@
 
 mod common;
 
-use std::fs;
-use std::io::Write;
-use std::path::{Path, PathBuf};
-use std::process::{Child, Stdio};
-use std::thread::sleep;
 use std::time::Duration;
 
 use usm::accounts::fullest;
 use usm::block::{BLOCK_BYTES, LONGEST_FILE};
 use usm::model;
 
-/// The program: where `USM_CHECK` says, or where `rt check` puts it.
-fn start() -> Child {
-    let built = Path::new(env!("CARGO_MANIFEST_DIR")).join("../target/bin/usm_check");
-    let program = std::env::var_os("USM_CHECK").map_or(built, PathBuf::from);
-    assert!(
-        program.is_file(),
-        "{} is not there: `rt check usm_check` makes it, or USM_CHECK names another",
-        program.display()
-    );
-    let mut command = common::program(&program);
-    command.stdin(Stdio::piped()).stdout(Stdio::piped()).spawn().expect("usm_check runs")
-}
-
 /// What the program prints for an input that comes in these pieces, with a pause after each.
 fn printed(pieces: &[&[u8]], pause: Duration) -> String {
-    let mut child = start();
-    let mut input = child.stdin.take().expect("piped");
-    for piece in pieces {
-        // The program stops reading at one byte too many; that is not this test's failure.
-        let _ = input.write_all(piece).and_then(|()| input.flush());
-        sleep(pause);
-    }
-    drop(input);
-    let output = child.wait_with_output().expect("usm_check ends");
-    assert!(output.status.success());
-    String::from_utf8(output.stdout).expect("UTF-8")
+    common::proved::printed("usm_check", pieces, pause)
 }
 
 /// The program prints this line, and so does the model for the same bytes.
@@ -59,14 +31,8 @@ fn full_file() -> Vec<u8> {
 
 #[test]
 fn every_sample_has_the_model_s_line() {
-    let samples = Path::new(env!("CARGO_MANIFEST_DIR")).join("../samples");
-    let entries = fs::read_dir(samples).expect("the samples").map(|entry| entry.expect("an entry").path());
-    let sheets: Vec<PathBuf> =
-        entries.filter(|path| path.extension().map_or(false, |kind| kind == "usm")).collect();
-    assert!(sheets.len() >= 12, "a dozen samples");
-    for sheet in sheets {
-        let file = fs::read(&sheet).expect("a sample");
-        assert_eq!(printed(&[&file], Duration::ZERO), model::file_line(&file), "{}", sheet.display());
+    for (name, file) in common::proved::samples() {
+        assert_eq!(printed(&[&file], Duration::ZERO), model::file_line(&file), "{name}");
     }
 }
 

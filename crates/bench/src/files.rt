@@ -1,4 +1,4 @@
-// The calls on files: write, file, read. Each prints its answer.
+// The calls on files: write, file, table, read. Each prints its answer.
 use crate::bytes::copy_to;
 use crate::calls::print_verdict;
 use crate::memory::base;
@@ -15,6 +15,7 @@ use crate::text::smaller;
 use blocks::Counts;
 use blocks::Reading;
 use blocks::Writing;
+use verdicts::TABLE_BYTES;
 
 // What each byte of a lent buffer holds before a call.
 const NO_BYTE: u8 = 170;
@@ -61,6 +62,18 @@ pub(crate) fn write(memory: &mut [u8], sizes: &mut [usize], room: usize) {
 
 pub(crate) fn file(memory: &[u8], sizes: &[usize]) {
     print_verdict(verdicts::check_file(table(memory, sizes, b'f')));
+}
+
+fn print_text(text: &[u8; TABLE_BYTES], n: usize) {
+    print_kept(kept(text, n));
+    print(part(text, 0, n));
+}
+
+// The table of the file, each of its lines on a line of its own.
+pub(crate) fn shown(memory: &[u8], sizes: &[usize]) {
+    let mut text = [NO_BYTE; TABLE_BYTES];
+    let n = verdicts::table_text(table(memory, sizes, b'f'), &mut text);
+    print_text(&text, n);
 }
 
 // Whether the first n records that were read are the whole of a table.

@@ -15,7 +15,7 @@
 //   clear                   empty all
 //   try h|p|c ..            empty a table, append the record and check the table
 //   check T · margin G · margins N ROOM · worksheet G STRIKES NETS · sheet
-//   write ROOM · file · read ROOM ROOM ROOM
+//   write ROOM · file · table · read ROOM ROOM ROOM
 mod bytes;
 mod calls;
 mod edits;
@@ -82,6 +82,10 @@ fn ask_files(line: &[u8], memory: &mut [u8], sizes: &mut [usize]) -> bool {
     }
     if says(line, b"file") {
         files::file(memory, sizes);
+        return true;
+    }
+    if says(line, b"table") {
+        files::shown(memory, sizes);
         return true;
     }
     if says(line, b"read") {

@@ -1,5 +1,5 @@
 -- The statements of specs/Demands.antt, proved.
-use mathlib.Core.Path.{refl}
+use mathlib.Core.Path.{sym}
 use native.Mathlib.Decide.{decLe}
 use native.Mathlib.Omega.{arith}
 use lib.ListN.{length}
@@ -8,19 +8,21 @@ use Rattle.blocks.specs.File.{tableOf, tablesIn, fileOf}
 use Rattle.blocks.specs.Writer.{filled}
 use Rattle.blocks.specs.Reader.{leaves}
 use Rattle.blocks.specs.Demands.{RefusedReadsNothing, RefusedWritesNothing, PastRecordsStays, PastCopyStays, PastFileStays}
-use Rattle.blocks.proofs.ReadLaws.{copied-room, copied-short}
+use Rattle.blocks.proofs.ReadLaws.{read-read, copied-room, copied-short}
+use Rattle.blocks.proofs.WriteLaws.{write-wrote}
 
 refused-reads-nothing : RefusedReadsNothing
 unfolding leaves
-refused-reads-nothing r kind file lent = refl
+refused-reads-nothing file h p c r e kind lent = rw e
 
 refused-writes-nothing : RefusedWritesNothing
 unfolding filled
-refused-writes-nothing r t out = refl
+refused-writes-nothing t out r e = rw e
 
 past-records-stays : PastRecordsStays
 unfolding leaves
-past-records-stays n kind file lent = put-past lent (tableOf kind (tablesIn file))
+past-records-stays file h p c n e =
+    (sym (read-read file h p c n e .1), λ kind lent. rw e (put-past lent (tableOf kind (tablesIn file))))
 
 past-copy-stays : PastCopyStays
 past-copy-stays kind file lent =
@@ -32,4 +34,4 @@ past-copy-stays kind file lent =
 
 past-file-stays : PastFileStays
 unfolding filled
-past-file-stays n t out = put-past out (fileOf t)
+past-file-stays t out n e = rw (e, ← write-wrote t (length out) n e .1) (put-past out (fileOf t))

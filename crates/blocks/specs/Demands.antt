@@ -6,29 +6,34 @@ use mathlib.Core.List.{List}
 use lib.ListN.{length, drop}
 use Rattle.records.specs.declared.refusals.Refusal.{Refusal}
 use Rattle.records.specs.declared.tables.Kind.{Kind}
-use Rattle.blocks.specs.File.{Tables, tableOf, tablesIn, fileOf}
-use Rattle.blocks.specs.Writer.{filled}
-use Rattle.blocks.specs.Reader.{leaves, copied}
+use Rattle.blocks.specs.File.{Tables, tableOf, tablesIn}
+use Rattle.blocks.specs.Writer.{writeOf, filled}
+use Rattle.blocks.specs.Reader.{countsOf, readOf, leaves, copied}
 use Rattle.blocks.specs.declared.reader.Counts.{Counts}
 use Rattle.blocks.specs.declared.reader.Reading.the-variants.{Read, Refused}
 use Rattle.blocks.specs.declared.writer.Writing.the-variants.{Wrote, Refused as Refused-writing}
 
--- 'Nothing lent is written' on a refusal: not to the reader's tables, not to the writer's buffer
+-- 'Nothing lent is written' on a refusal: where the reader refuses, each lent table is left as it was, and where the writer does, its
+-- buffer
 abbrev pub RefusedReadsNothing : Type 0
-RefusedReadsNothing = (r : Refusal) (kind : Kind) (file lent : List ℕ) → leaves (Refused r) kind file lent ≡ lent
+RefusedReadsNothing = (file : List ℕ) (h p c : ℕ) (r : Refusal) → readOf file h p c ≡ Refused r
+    → (kind : Kind) (lent : List ℕ) → leaves (readOf file h p c) kind file lent ≡ lent
 
 abbrev pub RefusedWritesNothing : Type 0
-RefusedWritesNothing = (r : Refusal) (t : Tables) (out : List ℕ) → filled (Refused-writing r) t out ≡ out
+RefusedWritesNothing = (t : Tables) (out : List ℕ) (r : Refusal) → writeOf t (length out) ≡ Refused-writing r
+    → filled (writeOf t (length out)) t out ≡ out
 
 -- 'In every call that succeeds, what lies past its output in a lent slice stays': past a table's records, read or only copied, and past
--- the file
+-- the file, whose length the writer answers
 abbrev pub PastRecordsStays : Type 0
-PastRecordsStays = (n : Counts) (kind : Kind) (file lent : List ℕ)
-    → (let past = length (tableOf kind (tablesIn file)) in drop past (leaves (Read n) kind file lent) ≡ drop past lent)
+PastRecordsStays = (file : List ℕ) (h p c : ℕ) (n : Counts) → readOf file h p c ≡ Read n
+    → (n ≡ countsOf (tablesIn file))
+    × ((kind : Kind) (lent : List ℕ)
+    → (let past = length (tableOf kind (tablesIn file)) in drop past (leaves (readOf file h p c) kind file lent) ≡ drop past lent))
 
 abbrev pub PastCopyStays : Type 0
 PastCopyStays = (kind : Kind) (file lent : List ℕ)
     → (let past = length (tableOf kind (tablesIn file)) in drop past (copied kind file lent) ≡ drop past lent)
 
 abbrev pub PastFileStays : Type 0
-PastFileStays = (n : ℕ) (t : Tables) (out : List ℕ) → (let past = length (fileOf t) in drop past (filled (Wrote n) t out) ≡ drop past out)
+PastFileStays = (t : Tables) (out : List ℕ) (n : ℕ) → writeOf t (length out) ≡ Wrote n → drop n (filled (writeOf t (length out)) t out) ≡ drop n out

@@ -11,6 +11,7 @@ use Rattle.blocks.specs.File.{Tables}
 use Rattle.spreads.specs.Calls.{marginCall}
 use Rattle.sheets.specs.Verdicts.{verdictOf}
 use Rattle.verdicts.specs.FileVerdicts.{fileVerdict}
+use Rattle.verdicts.specs.TableText.{tableText}
 use Rattle.usm_c.specs.Answers.{dueWords, verdictWords, tableWords}
 use Rattle.usm_c.specs.Outcomes.{marginsWords, marginsLeft, worksheetWords, strikesLeft, netsLeft, readWords, tableLeft, writeWords, outLeft, fileLine}
 
@@ -67,3 +68,10 @@ module _ (file line : List ℕ) where
 
   line-left-unique : (a b : List ℕ) → a ≡ putAt line 0 (fileLine file) → b ≡ putAt line 0 (fileLine file) → a ≡ b
   line-left-unique a b = one-outcome
+
+module _ (file text : List ℕ) where
+  file-table-unique : (a b : ℕ) → a ≡ length (tableText file) → b ≡ length (tableText file) → a ≡ b
+  file-table-unique a b = one-outcome
+
+  table-text-unique : (a b : List ℕ) → a ≡ putAt text 0 (tableText file) → b ≡ putAt text 0 (tableText file) → a ≡ b
+  table-text-unique a b = one-outcome

@@ -1,5 +1,5 @@
 // The calls of the library for C and Rust. Slices pass as a pointer and a length. The answer of every
-// call but the last is four words: 0 and the results, or a refusal's number, table and place, and 0.
+// call but the last two is four words: 0 and the results, or a refusal's number, table and place, and 0.
 // No public function has a `requires`.
 ghost use mathlib.Core.Path.{_≡_};
 ghost use lib.ListN.{length};
@@ -9,12 +9,14 @@ ghost use Rattle.blocks.specs.File.{tables};
 ghost use Rattle.spreads.specs.Calls.{marginCall};
 ghost use Rattle.sheets.specs.Verdicts.{verdictOf};
 ghost use Rattle.verdicts.specs.FileVerdicts.{fileVerdict};
+ghost use Rattle.verdicts.specs.TableText.{tableText};
 ghost use Rattle.usm_c.specs.Answers.{dueWords, verdictWords, tableWords};
 ghost use Rattle.usm_c.specs.Outcomes.{marginsWords, marginsLeft, worksheetWords, strikesLeft, netsLeft, readWords, tableLeft, writeWords, outLeft, fileLine};
 
 mod words;
 
 use verdicts::LINE_BYTES;
+use verdicts::TABLE_BYTES;
 use words::due_words;
 use words::listed_words;
 use words::reading_words;
@@ -123,4 +125,13 @@ pub extern "C" fn usm_file_line(file: &[u8], line: &mut [u8; LINE_BYTES]) -> usi
     ensures { λ _. ⌜ now (line .exit) ≡ putAt (now (line .entry)) 0 (fileLine (now (file .entry))) ⌝ }
 {
     verdicts::verdict_line(verdicts::check_file(file), line)
+}
+
+// The table that is printed for a sheet file, or the REFUSE line of a refused one; the answer is its length.
+#[no_mangle]
+pub extern "C" fn usm_file_table(file: &[u8], text: &mut [u8; TABLE_BYTES]) -> usize
+    ensures { λ r. ⌜ r ≡ length (tableText (now (file .entry))) ⌝ }
+    ensures { λ _. ⌜ now (text .exit) ≡ putAt (now (text .entry)) 0 (tableText (now (file .entry))) ⌝ }
+{
+    verdicts::table_text(file, text)
 }

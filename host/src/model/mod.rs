@@ -1,4 +1,4 @@
-//! An independent model of the library in plain Rust, written from document 01 alone.
+//! An independent model of the library in plain Rust, written from documents 01 and 02 alone.
 //!
 //! It shares no line with the proved sources. The differential tests hold the two
 //! against each other, and the benchmark runs them side by side. Its calls have the
@@ -7,6 +7,7 @@
 mod file;
 mod sheet;
 mod spread;
+mod table;
 mod tables;
 
 use crate::records::{Table, RECORD_BYTES};
@@ -110,6 +111,14 @@ pub fn write_file(
 pub fn file_line(file: &[u8]) -> String {
     match check_file(file) {
         Ok(accepted) => accepted.line(),
+        Err(refusal) => refusal.line(),
+    }
+}
+
+/// The table `usm_table` prints for this file.
+pub fn file_table(file: &[u8]) -> String {
+    match file::parts(file).and_then(|parts| table::of(&parts.tables().decode()?)) {
+        Ok(text) => text,
         Err(refusal) => refusal.line(),
     }
 }

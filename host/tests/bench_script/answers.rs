@@ -67,6 +67,12 @@ pub fn file(calls: &Calls, memory: &Memory) -> String {
     verdict
 }
 
+/// The table's lines stand below the command's; that nothing else of the lent bytes changes is tried for
+/// every call by the differential tests.
+pub fn table(calls: &Calls, memory: &Memory) -> String {
+    format!("{}\n{}", kept(true), (calls.file_table)(&memory.file)).trim_end().to_string()
+}
+
 /// What is written becomes the file; after a refusal there is none.
 pub fn write(calls: &Calls, memory: &mut Memory, room: usize) -> String {
     let mut out: Lent<u8> = Lent::of_length(room);

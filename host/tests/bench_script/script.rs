@@ -23,7 +23,7 @@ pub fn play(calls: &Calls, script: &str) -> Result<Vec<String>, String> {
         }
         match step(calls, &mut memory, line) {
             Ok(None) => {}
-            Ok(Some(answer)) => printed.push(format!("{line}: {answer}")),
+            Ok(Some(answer)) => printed.extend(format!("{line}: {answer}").lines().map(String::from)),
             Err(_) if no_commands => printed.push(format!("{line}: ?")),
             Err(error) => return Err(format!("line {}: `{line}`: {error}", index + 1)),
         }
@@ -73,6 +73,7 @@ fn ask(calls: &Calls, memory: &mut Memory, words: &[&str]) -> Result<String, Str
         }
         ["sheet"] => answers::sheet(calls, memory),
         ["file"] => answers::file(calls, memory),
+        ["table"] => answers::table(calls, memory),
         ["write", room] => answers::write(calls, memory, number(room)?),
         ["read", h, p, c] => answers::read(calls, memory, [number(h)?, number(p)?, number(c)?]),
         _ => return Err(String::from("no such command")),

@@ -2,7 +2,7 @@
 
 use std::collections::{BTreeMap, BTreeSet};
 
-use usm::ffi::{Answer, LINE_BYTES};
+use usm::ffi::{Answer, LINE_BYTES, TABLE_BYTES};
 use usm::{block, fields, Market, OptionType, Reason, Side, Style, Table};
 
 const HEADER: &str = include_str!("../../include/usm.h");
@@ -82,6 +82,7 @@ fn terms_tables_and_sizes_have_rusts_numbers() {
         ("USM_LEGS_BYTES", Table::Placement.most_bytes()),
         ("USM_CLAIMS_BYTES", Table::Claims.most_bytes()),
         ("USM_LINE_BYTES", LINE_BYTES),
+        ("USM_TABLE_BYTES", TABLE_BYTES),
         ("USM_BLOCK_BYTES", block::BLOCK_BYTES),
         ("USM_MOST_BLOCKS", block::MOST_BLOCKS),
         ("USM_LONGEST_FILE", block::LONGEST_FILE),
@@ -121,7 +122,7 @@ fn calls_named_in(source: &str) -> BTreeSet<&str> {
 #[test]
 fn the_header_and_the_rust_declarations_name_the_same_calls() {
     let header = calls_named_in(HEADER);
-    assert_eq!(header.len(), 9, "{header:?}");
+    assert_eq!(header.len(), 10, "{header:?}");
     assert_eq!(header, calls_named_in(include_str!("../../src/ffi.rs")));
 }
 

@@ -14,6 +14,12 @@ strike 60000 net 0
 usm_check_sheet: accepted, groups 2, total 1500000 mills
 usm_check_file: accepted, groups 2, total 1500000 mills
 file of 1536 bytes: ACCEPT 2 1500000
+GROUP 1 1000000
+50000 -1000000
+60000 0
+GROUP 2 500000
+65000 0
+70000 -500000
 read back 4 + 4 + 2 records, the same
 usm_margin: refusal 6, table 2, place 3
 usm_check_sheet: refusal 16, table 3, place 2

@@ -1,5 +1,8 @@
 //! Programs that tests start, and folders for what they make.
 
+#[allow(dead_code)] // for the tests of the proved programs
+pub mod proved;
+
 use std::ffi::OsStr;
 use std::fs;
 use std::path::{Path, PathBuf};

@@ -3,7 +3,7 @@
 
 use std::fmt::{Debug, Display};
 
-use usm::ffi::{self, Answer, LINE_BYTES};
+use usm::ffi::{self, Answer, LINE_BYTES, TABLE_BYTES};
 use usm::lent::Lent;
 use usm::{model, Refusal, Table, Tables, RECORD_BYTES};
 
@@ -140,4 +140,15 @@ pub fn file_line(case: &dyn Display, file: &[u8]) {
     assert!(line.stayed_past(length), "{case}: usm_file_line wrote past its line");
     let found = String::from_utf8_lossy(&line.slice()[..length]).into_owned();
     assert_eq!(found, expected, "{case}: usm_file_line: library (left) and model (right) differ");
+}
+
+pub fn file_table(case: &dyn Display, file: &[u8]) {
+    let mut text = Lent::of_length(TABLE_BYTES);
+    let lent = text.slice().try_into().expect("just the bytes of a table");
+    let length = ffi::file_table(file, lent);
+    let expected = model::file_table(file);
+    assert!(length <= TABLE_BYTES, "{case}: usm_file_table answers the length {length}");
+    assert!(text.stayed_past(length), "{case}: usm_file_table wrote past its table");
+    let found = String::from_utf8_lossy(&text.slice()[..length]).into_owned();
+    assert_eq!(found, expected, "{case}: usm_file_table: library (left) and model (right) differ");
 }

@@ -47,6 +47,7 @@ pub fn try_file(case: &Case, random: &mut Random, file: &[u8], tables: &Tables, 
     };
     tally.count(compare::read_file(case, file, rooms));
     compare::file_line(case, file);
+    compare::file_table(case, file);
 }
 
 /// How many distinct strikes a group has, for the choice of room only.

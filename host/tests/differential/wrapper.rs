@@ -18,6 +18,7 @@ struct Answers {
     read_file: (Result<RecordCounts, Refusal>, [[u8; 200]; 3]),
     write_file: (Result<usize, Refusal>, Vec<u8>),
     file_line: String,
+    file_table: String,
 }
 
 fn answers(calls: Calls, tables: &Tables, file: &[u8], g: u64) -> Answers {
@@ -36,6 +37,7 @@ fn answers(calls: Calls, tables: &Tables, file: &[u8], g: u64) -> Answers {
         read_file: ((calls.read_file)(file, &mut held, &mut placed, &mut claimed), [held, placed, claimed]),
         write_file: ((calls.write_file)(holdings, placement, claims, &mut out), out),
         file_line: (calls.file_line)(file),
+        file_table: (calls.file_table)(file),
     }
 }
 

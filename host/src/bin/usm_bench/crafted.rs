@@ -19,7 +19,9 @@ fn unplaced(lines: Vec<Leg>) -> Sheet {
 
 /// As many longs as a table takes, at strikes `step` mills apart.
 fn longs(lowest: u32, step: u32) -> Vec<Leg> {
-    (0..MOST_LEGS as u32).map(|index| in_group(0, Leg { strike: lowest + step * index, ..leg("L50c") })).collect()
+    (0..MOST_LEGS as u32)
+        .map(|index| in_group(0, Leg { strike: lowest + step * index, ..leg("L50c") }))
+        .collect()
 }
 
 pub fn all_different() -> Sheet {
@@ -51,28 +53,29 @@ pub fn uneven_at(record: usize) -> Sheet {
 /// One group of one strike, whose legs differ in unit size alone, the shorts expiring first. Every
 /// pair of legs has to be looked at for a doubled series, and all lines share a bucket.
 pub fn one_strike() -> Sheet {
-    one_group(|index| Leg { unit_size: index as u16 + 1, ..leg("L50c") })
-}
-
-/// The slowest sheet that a search over how often each strike comes back has found: one group, each
-/// strike in `REPEATS` longs and shorts, lines of one bucket.
-pub fn worst_found() -> Sheet {
-    one_group(|index| Leg {
-        strike: 1 + BUCKETS * (index / REPEATS) as u32,
-        unit_size: (index % REPEATS) as u16 + 1,
-        ..leg("L50c")
+    one_group(|index| {
+        let short = Leg { side: Side::Short, unit_size: index as u16 + 1, ..leg("L50c") };
+        [Leg { side: Side::Long, expiry: LATER, ..short }, short]
     })
 }
 
-const REPEATS: usize = 32;
+/// The slowest sheet that a search has found, over the number of groups, how often a strike comes back,
+/// the order in which strikes stand and whether lines share a bucket: one group, every strike another,
+/// in mixed order, all lines of one bucket.
+pub fn worst_found() -> Sheet {
+    one_group(|index| {
+        // 37 has no common factor with the number of pairs, so each comes up once.
+        let place = 2 * (index * 37 % PAIRS) as u32;
+        let long = Leg { strike: 1 + BUCKETS * place, ..leg("L50c") };
+        [long, Leg { side: Side::Short, strike: long.strike + BUCKETS, ..long }]
+    })
+}
 
-/// Half as many longs as a table takes, each beside a short that expires first.
-fn one_group(long: impl Fn(usize) -> Leg) -> Sheet {
-    let pair = |index| {
-        let short = Leg { side: Side::Short, ..long(index) };
-        [Leg { expiry: LATER, ..long(index) }, short]
-    };
-    let placement: Vec<Leg> = (0..MOST_LEGS / 2).flat_map(pair).collect();
+/// As many pairs of a long and a short as a table takes.
+const PAIRS: usize = MOST_LEGS / 2;
+
+fn one_group(pair: impl Fn(usize) -> [Leg; 2]) -> Sheet {
+    let placement: Vec<Leg> = (0..PAIRS).flat_map(pair).collect();
     let holdings = placement.iter().map(|leg| in_group(0, *leg)).collect();
     claimed(Sheet { holdings, placement, claims: Vec::new() }, 1)
 }

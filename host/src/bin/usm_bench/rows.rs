@@ -46,6 +46,13 @@ fn check_file(name: &'static str, file: &[u8]) -> Row {
     })
 }
 
+fn file_table(name: &'static str, file: &[u8]) -> Row {
+    row(name, |calls| {
+        let file = file.to_vec();
+        move || (calls.file_table)(&file).len() as u64
+    })
+}
+
 fn margins(name: &'static str, sheet: &Sheet) -> Row {
     row(name, |calls| {
         let (placement, n) = (leg_table(&sheet.placement), sheet.claims.len() as u64);
@@ -144,6 +151,10 @@ fn ordinary() -> Vec<Row> {
         check_file("check file, small (3 blocks)", &file_of(&small)),
         check_file("check file, typical (9 blocks)", &file_of(&typical)),
         check_file("check file, full (39 blocks)", &file_of(&full)),
+        file_table("table of a file, small (3 blocks)", &file_of(&small)),
+        file_table("table of a file, typical (9 blocks)", &file_of(&typical)),
+        file_table("table of a file, full (39 blocks)", &file_of(&full)),
+        file_table("table of one group of 256 strikes", &file_of(&wide)),
         read_file("read file, 39 blocks", &file_of(&full)),
         write_file("write file, 39 blocks", &full),
     ]

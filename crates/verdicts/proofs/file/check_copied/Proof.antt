@@ -12,10 +12,12 @@ returns c =
     let g1 = g2 .before .before .before .before in
     let z = g1 .before .before .before .before .before .before in
     let a = z .args in
-    let r = z .pre .1 in
-    c .check-read .ensures
-    ∙ file-copied (now (a .file)) (a .counts) (z .pre .0) (now (a .holdings)) (now (a .placement)) (now (a .claims)) _ _ _ (r .0) (r .1) (r .2)
-    (g1 .copy-table .ensures .1) (g2 .copy-table2 .ensures .1) (g3 .copy-table3 .ensures .1) .verdict
+    let r = z .pre .1 in (
+      c .check-read .ensures
+          ∙ file-copied (now (a .file)) (a .counts) (z .pre .0) (now (a .holdings)) (now (a .placement)) (now (a .claims)) _ _ _ (r .0) (r .1) (r .2)
+          (g1 .copy-table .ensures .1) (g2 .copy-table2 .ensures .1) (g3 .copy-table3 .ensures .1) .verdict,
+      (g2 .copy-table2 .ensures .1, g3 .copy-table3 .ensures .1),
+    )
 
 pub check-copied-spec : {M : Type 1} → statement M
 check-copied-spec =

@@ -1,0 +1,68 @@
+-- The demands of specs/TableDemands.antt, proved.
+use mathlib.Core.Path.{_≡_, refl, ap}
+use mathlib.Core.List.{List, [], _∷_}
+use Prim.Native.Nat.{ℕ, zero, suc}
+use native.Mathlib.Omega.{arith}
+use lib.IntN.{pos}
+use lib.ListN.{length}
+use Rattle.records.specs.Lists.{sumOf, most, All}
+use Rattle.records.specs.Tables.{legsOf, claimsOf}
+use Rattle.records.specs.declared.legs.Leg.{Leg}
+use Rattle.records.proofs.ListLaws.{all-append}
+use Rattle.records.proofs.Measures.{sum-append}
+use Rattle.blocks.specs.File.{tablesIn}
+use Rattle.spreads.specs.Spreads.{groupOf}
+use Rattle.spreads.specs.Strikes.{marginOf, lossOf}
+use Rattle.spreads.proofs.Nets.{margin-nets}
+use Rattle.sheets.specs.Sheets.{claimFor, totalOf}
+use Rattle.sheets.proofs.Groups.{total, total-ext, total-claims}
+use Rattle.verdicts.specs.TableText.{shownOf, shownIn, tableText}
+use Rattle.verdicts.specs.TableDemands.{TableReadsBack, TableTotal, TableMargins, RefusedPrints}
+use Rattle.verdicts.proofs.Demands.{file-just}
+use Rattle.verdicts.proofs.ReadBack.{table-read}
+use Rattle.verdicts.proofs.Worksheets.{length-nets}
+
+module _ (placement : List Leg) where
+  shown-total : (n : ℕ) → sumOf (λ s. s .margin) (shownIn n placement) ≡ total n (λ g. marginOf (groupOf g placement))
+  unfolding sumOf shownIn total
+  shown-total zero = refl
+  shown-total (suc n) =
+      omega (arith, sum-append (λ s. s .margin) (shownIn n placement) (shownOf (suc n) (groupOf (suc n) placement) ∷ []), shown-total n)
+
+  shown-margins : (n : ℕ) → All (λ s. s .margin ≡ most lossOf (s .nets)) (shownIn n placement)
+  unfolding shownIn marginOf
+  shown-margins zero = tt
+  shown-margins (suc n) = all-append _ (shownIn n placement) _ (shown-margins n) (margin-nets (groupOf (suc n) placement), tt)
+
+  shown-even : (n : ℕ) → All (λ s. length (s .nets) ≡ length (s .strikes)) (shownIn n placement)
+  unfolding shownIn
+  shown-even zero = tt
+  shown-even (suc n) = all-append _ (shownIn n placement) _ (shown-even n) (length-nets (groupOf (suc n) placement), tt)
+
+pub table-reads-back : TableReadsBack
+unfolding tableText
+table-reads-back file n total e =
+    let p = legsOf (tablesIn file .placement) in
+    rw e (table-read (shownIn n p) (shown-even p n))
+
+pub table-total : TableTotal
+table-total file n amount e =
+    let k = file-just file n (pos amount) .0 e in
+    let p = legsOf (tablesIn file .placement) in
+    let c = claimsOf (tablesIn file .claims) in
+    let a : amount ≡ totalOf c = cc (k .3) in
+    rw (table-reads-back file n (pos amount) e)
+    (omega (
+      arith,
+      shown-total p n,
+      ap (λ (m : ℕ). total m (λ g. marginOf (groupOf g p))) (k .2),
+      total-claims c,
+      total-ext (length c) (claimFor c) (λ g. marginOf (groupOf g p)) (k .1 .rule .claims),
+    ))
+
+pub table-margins : TableMargins
+table-margins file n total e = rw (table-reads-back file n (pos total) e) (shown-margins (legsOf (tablesIn file .placement)) n)
+
+pub refused-prints : RefusedPrints
+unfolding tableText
+refused-prints file r e = rw e

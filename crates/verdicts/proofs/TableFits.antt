@@ -1,0 +1,129 @@
+-- Every table fits: 32 lines of groups of at most 29 bytes each, and 256 lines of strikes of at most 30, are 8,608 bytes.
+use mathlib.Core.Path.{_≡_, refl, ap}
+use mathlib.Core.List.{List, [], _∷_}
+use Prim.Native.Nat.{ℕ, zero, suc, _+_, _*_, _≤_, _<_}
+use native.Mathlib.Omega.{arith}
+use lib.Dec.{leb}
+use lib.IntN.{ℤ, pos, negsuc, natAbs}
+use lib.ListN.{length, length-append}
+use Rattle.records.specs.Claims.{mostMills}
+use Rattle.records.specs.Lists.{only, sumOf, All}
+use Rattle.records.specs.Tables.{legsOf}
+use Rattle.records.specs.declared.legs.Leg.{Leg}
+use Rattle.records.proofs.ListLaws.{every, map-all}
+use Rattle.records.proofs.Measures.{only-le, sum-bound}
+use Rattle.records.proofs.TableLaws.{Ranges}
+use Rattle.spreads.specs.Prices.{net}
+use Rattle.spreads.specs.Spreads.{groupOf, groupIn}
+use Rattle.spreads.specs.Steps.{Checked, strikesEnd}
+use Rattle.spreads.specs.Strikes.{insert, strikesOf, marginOf, netsOf}
+use Rattle.spreads.proofs.Bounds.{sides-small, table-few, group-ranges, group-few, margin-small}
+use Rattle.spreads.proofs.Inserting.{inserting}
+use Rattle.spreads.proofs.Inserting as inserted
+use Rattle.spreads.proofs.Signed.{abs-minus}
+use Rattle.spreads.proofs.StrikeLaws.{strikes-small}
+use Rattle.sheets.proofs.Groups.{total, total-ext, by-group-upto}
+use Rattle.verdicts.specs.Printed.{decimalOf, amountOf}
+use Rattle.verdicts.specs.TableText.{shownOf, shownIn, groupLine, strikeLine, strikeLines, groupText, shownText}
+use Rattle.verdicts.proofs.DecimalLaws.{decimal-short}
+use Rattle.verdicts.proofs.ShownLaws.{length-group-line, length-strike-line, shown-suc}
+
+-- ---- one line
+
+group-line-short : (g margin : ℕ) → g ≤ 32 → margin ≤ mostMills → length (groupLine g margin) ≤ 29
+group-line-short g margin h m =
+    omega (arith, length-group-line g margin, decimal-short 1 g (omega arith), decimal-short 18 margin (omega arith))
+
+amount-within : (net : ℤ) → natAbs net ≤ mostMills → length (amountOf net) ≤ 20
+amount-within (pos n) h = omega (arith, decimal-short 18 n (omega arith))
+amount-within (negsuc n) h = omega (arith, decimal-short 18 (suc n) (omega arith))
+
+strike-line-short : (strike : ℕ) (net : ℤ) → strike < strikesEnd → natAbs net ≤ mostMills → length (strikeLine strike net) ≤ 30
+strike-line-short strike net h m =
+    omega (arith, length-strike-line strike net, decimal-short 7 strike (omega arith), amount-within net m)
+
+-- ---- the lines of one group
+
+strike-lines-short : (strikes : List ℕ) (nets : List ℤ) → All (λ k. k < strikesEnd) strikes → All (λ z. natAbs z ≤ mostMills) nets
+    → length (strikeLines strikes nets) ≤ 30 * length strikes
+unfolding strikeLines
+strike-lines-short [] nets a b = omega arith
+strike-lines-short (s ∷ ss) [] a b = omega arith
+strike-lines-short (s ∷ ss) (n ∷ ns) a b =
+    omega (
+      arith,
+      length-append (strikeLine s n) (strikeLines ss ns),
+      strike-line-short s n (a .0) (b .0),
+      strike-lines-short ss ns (a .1) (b .1),
+    )
+
+insert-count : (k : ℕ) (xs : List ℕ) → length (insert k xs) ≤ suc (length xs)
+unfolding insert
+insert-count k [] = omega arith
+insert-count k (x ∷ xs) =
+    elim (inserting k x xs) [
+      | inserted.before h e ↦ rw e (omega arith)
+      | inserted.behind h e ↦ rw e (omega (arith, insert-count k xs))
+      | inserted.there h e ↦ rw e (omega arith)
+    ]
+
+-- no more strikes than legs
+pub strikes-count : (legs : List Leg) → length (strikesOf legs) ≤ length legs
+unfolding strikesOf
+strikes-count [] = omega arith
+strikes-count (l ∷ ls) = omega (arith, insert-count (l .strike) (strikesOf ls), strikes-count ls)
+
+-- ---- the groups of a placement
+
+sum-ones : (legs : List Leg) → length legs ≡ sumOf (λ l. 1) legs
+unfolding sumOf
+sum-ones [] = refl
+sum-ones (l ∷ ls) = omega (arith, sum-ones ls)
+
+-- no more legs in groups 1 to n than there are
+legs-in-groups : (legs : List Leg) (n : ℕ) → total n (λ g. length (groupOf g legs)) ≤ length legs
+unfolding groupOf
+legs-in-groups legs n =
+    omega (
+      arith,
+      total-ext n (λ g. length (groupOf g legs)) (λ g. sumOf (λ l. 1) (groupOf g legs)) (λ g a b. sum-ones (groupOf g legs)),
+      by-group-upto (λ l. 1) (λ l. l .group) legs n,
+      sum-bound (λ l. only (leb (l .group) n) 1) 1 legs (every legs (λ l. only-le (leb (l .group) n) 1)),
+    )
+
+module _ (xs : List ℕ) (p : Checked xs) where
+  net-within : (g k : ℕ) → k < strikesEnd → natAbs (net (groupIn xs g) k) ≤ mostMills
+  unfolding net
+  net-within g k h =
+      let parts = sides-small k (groupIn xs g) (group-ranges xs p g) h (group-few xs p g) in
+      abs-minus _ _ mostMills (parts .0) (parts .1)
+
+  group-short : (g : ℕ) → g ≤ 32 → length (groupText (shownOf g (groupIn xs g))) ≤ 29 + 30 * length (groupIn xs g)
+  unfolding groupText netsOf
+  group-short g h =
+      let legs = groupIn xs g in
+      let small = strikes-small legs (group-ranges xs p g) in
+      omega (
+        arith,
+        length-append (groupLine g (marginOf legs)) (strikeLines (strikesOf legs) (netsOf legs)),
+        group-line-short g (marginOf legs) h (margin-small xs p g),
+        strike-lines-short (strikesOf legs) (netsOf legs) small
+            (map-all (net legs) (λ z. natAbs z ≤ mostMills) (λ k. k < strikesEnd) (strikesOf legs) (net-within g) small),
+        strikes-count legs,
+      )
+
+  groups-short : (n : ℕ) → n ≤ 32 → length (shownText (shownIn n (legsOf xs))) ≤ 29 * n + 30 * total n (λ g. length (groupIn xs g))
+  unfolding shownIn shownText total
+  groups-short zero h = omega arith
+  groups-short (suc n) h =
+      omega (
+        arith,
+        ap length (shown-suc (legsOf xs) n),
+        length-append (shownText (shownIn n (legsOf xs))) (groupText (shownOf (suc n) (groupIn xs (suc n)))),
+        group-short (suc n) h,
+        groups-short n (omega arith),
+      )
+
+  -- no text is longer
+  pub shown-fits : (n : ℕ) → n ≤ 32 → length (shownText (shownIn n (legsOf xs))) ≤ 8608
+  shown-fits n h = omega (arith, groups-short n h, legs-in-groups (legsOf xs) n, table-few xs p)

@@ -1,0 +1,23 @@
+-- What the steps of the calls rely on, for the contracts of functions that are not public.
+use mathlib.Core.Path.{_≡_}
+use mathlib.Core.List.{List}
+use Prim.Native.Nat.{ℕ}
+use Rattle.records.specs.Order.{firstOf}
+use Rattle.records.specs.declared.refusals.Fault.the-variants.{Nothing}
+use Rattle.spreads.specs.Calls.{groupChecks}
+use Rattle.spreads.specs.Spreads.{groupIn}
+use Rattle.spreads.specs.Strikes.{strikesOf, netsOf}
+use Rattle.sheets.specs.Demands.{Kept}
+use Rattle.verdicts.specs.TableText.{strikeLines}
+
+-- the calls of group g refuse nothing of this placement
+abbrev pub Answered : List ℕ → ℕ → Type 0
+Answered placement g = firstOf (groupChecks placement g) ≡ Nothing
+
+-- the lines under the margin of group g
+abbrev pub worksheetLines : List ℕ → ℕ → List ℕ
+worksheetLines placement g = strikeLines (strikesOf (groupIn placement g)) (netsOf (groupIn placement g))
+
+-- placement and claims of a sheet that keeps the rules
+abbrev pub ShownBy : List ℕ → List ℕ → Type 0
+ShownBy placement claims = (holdings : List ℕ) × Kept holdings placement claims

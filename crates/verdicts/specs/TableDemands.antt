@@ -1,0 +1,33 @@
+-- What is demanded of the table: document 02, [1]. The proofs stand in proofs/TableDemands.antt.
+use mathlib.Core.Path.{_≡_}
+use mathlib.Core.List.{List}
+use Prim.Native.Nat.{ℕ}
+use lib.IntN.{ℤ, pos}
+use Rattle.records.specs.Lists.{sumOf, most, All}
+use Rattle.records.specs.Tables.{legsOf}
+use Rattle.records.specs.declared.refusals.Refusal.{Refusal}
+use Rattle.blocks.specs.File.{tablesIn}
+use Rattle.spreads.specs.Strikes.{lossOf}
+use Rattle.sheets.specs.declared.sheet.Verdict.the-variants.{Accepted, Refused}
+use Rattle.verdicts.specs.FileVerdicts.{fileVerdict}
+use Rattle.verdicts.specs.Printed.{refuseLine}
+use Rattle.verdicts.specs.ReadBack.{tableIn}
+use Rattle.verdicts.specs.TableText.{shownIn, tableText}
+
+-- numbers printed read back: from the text of an accepted sheet each group, margin, strike and net is read, in order
+abbrev pub TableReadsBack : Type 0
+TableReadsBack = (file : List ℕ) (n : ℕ) (total : ℤ) → fileVerdict file ≡ Accepted n total
+    → tableIn (tableText file) ≡ shownIn n (legsOf (tablesIn file .placement))
+
+-- 'a line `GROUP g margin`': the margins in the text of an accepted sheet add up to the verdict's total
+abbrev pub TableTotal : Type 0
+TableTotal = (file : List ℕ) (n total : ℕ) → fileVerdict file ≡ Accepted n (pos total) → sumOf (λ s. s .margin) (tableIn (tableText file)) ≡ total
+
+-- 'then a line `strike net` for each distinct strike': each margin is the greatest of 0 and the losses of the lines under it
+abbrev pub TableMargins : Type 0
+TableMargins = (file : List ℕ) (n total : ℕ) → fileVerdict file ≡ Accepted n (pos total)
+    → All (λ s. s .margin ≡ most lossOf (s .nets)) (tableIn (tableText file))
+
+-- 'A refused sheet prints only its REFUSE line'
+abbrev pub RefusedPrints : Type 0
+RefusedPrints = (file : List ℕ) (r : Refusal) → fileVerdict file ≡ Refused r → tableText file ≡ refuseLine r
