@@ -14,6 +14,11 @@ pub fn spreads() -> Vec<Sample> {
             placed(&iron_condor(1), &[1_000_000]),
         ),
         sample(
+            "vertical",
+            "Long the 60 call, short the 50: it loses the difference from 60 up, which is its margin.",
+            placed(&[leg("L60c"), leg("S50c")], &[1_000_000]),
+        ),
+        sample(
             "butterfly",
             "A long butterfly never loses at its strikes: no margin.",
             placed(&[leg("L50c"), times(2, "S60c"), leg("L70c")], &[0]),
