@@ -15,7 +15,7 @@ use Rattle.spreads.specs.Prices.{net}
 use Rattle.spreads.specs.Spreads.{groupIn}
 use Rattle.spreads.specs.Strikes.{strikesOf, netsOf}
 use Rattle.spreads.specs.Calls.{groupChecks, listedAnswer, listedAfter, strikesListed, worksheetCall, listLeft, marginsFrom, groupsChecks, marginsCall}
-use Rattle.spreads.specs.Demands.{SpreadJust, StrikesJust, WorstIsGreatest, Leaves, WorksheetLeaves, MarginsLeave, JoiningCosts}
+use Rattle.spreads.specs.Demands.{merged, SpreadJust, StrikesJust, WorstIsGreatest, Leaves, WorksheetLeaves, MarginsLeave, BoxJust, BoxNets, MarginsJust, JoiningLoses, JoiningCosts}
 use Rattle.spreads.specs.declared.calls.Listed.{Listed}
 use Rattle.spreads.specs.declared.calls.Listed.the-variants.{Entries, Refused}
 use Rattle.spreads.proofs.RuleLaws.{no-refusal-to-spread, spread-to-no-refusal}
@@ -23,6 +23,7 @@ use Rattle.spreads.proofs.StrikeLaws.{strikes-have, strikes-from, strik
 use Rattle.spreads.proofs.Nets.{worst-greatest}
 use Rattle.spreads.proofs.MarginLists.{length-margins}
 use Rattle.spreads.proofs.Merge.{merge-groups}
+use Rattle.spreads.proofs.BoxLaws.{test-to-box, box-to-test, no-box-test, box-margin, other-margin, box-nets, merge-margins}
 
 pub spread-just : SpreadJust
 spread-just g placement = (no-refusal-to-spread g placement, spread-to-no-refusal g placement)
@@ -32,6 +33,17 @@ strikes-just legs = (strikes-have legs, strikes-from legs, strikes-ascending leg
 
 pub worst-is-greatest : WorstIsGreatest
 worst-is-greatest = worst-greatest
+
+-- ---- European long boxes
+
+pub box-just : BoxJust
+box-just legs = (test-to-box legs, box-to-test legs)
+
+pub boxes-net : BoxNets
+boxes-net = box-nets
+
+pub margins-just : MarginsJust
+margins-just legs = record { box = box-margin legs; other = λ h. other-margin legs (no-box-test legs h) }
 
 -- ---- what is left in a lent slice
 
@@ -77,5 +89,8 @@ pub margins-leave : MarginsLeave
 margins-leave placement n out =
     leaves (marginsCall placement n (length out)) (marginsFrom (legsOf placement) 1 n) out (margins-listed placement n (length out))
 
+pub joining-loses : JoiningLoses
+joining-loses = merge-groups
+
 pub joining-costs : JoiningCosts
-joining-costs = merge-groups
+joining-costs g k placement ne sg sk other = merge-margins g k placement ne sg sk (no-box-test (merged g k placement) other)
