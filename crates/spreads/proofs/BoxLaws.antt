@@ -9,7 +9,7 @@ use native.Mathlib.Omega.{arith}
 use lib.Dec.{eqb, ltb}
 use borrow.Author.Tests.{eqb-true, eq-eqb, ltb-true, lt-ltb}
 use Rattle.records.specs.Lists.{allOf}
-use Rattle.records.specs.Legs.{isLong, isShort, isCall, isPut, isEuropean, units}
+use Rattle.records.specs.Legs.{isLong, isShort, isCall, isPut, isEuropean}
 use Rattle.records.specs.declared.legs.Leg.{Leg}
 use Rattle.records.proofs.ListLaws.{all-map, allOf-all, all-allOf}
 use Rattle.spreads.specs.Prices.{longAt, shortAt, at}

@@ -7,10 +7,10 @@ use native.Mathlib.Decide.{decLt}
 use native.Mathlib.Omega.{arith}
 use lib.Dec.{eqb}
 use Rattle.records.specs.Lists.{only, sumOf, All}
-use Rattle.records.specs.Legs.{contractsFrom}
 use Rattle.records.specs.declared.legs.Leg.{Leg}
 use Rattle.spreads.specs.Strikes.{insert, strikesOf}
 use Rattle.spreads.specs.Boxes.{unitsAt, isBoxLeg, LongBox}
+use Rattle.spreads.specs.Demands.{withContracts}
 use Rattle.spreads.proofs.Inserting.{inserting}
 use Rattle.spreads.proofs.Inserting as at
 
@@ -129,22 +129,6 @@ pub box-swap : (a b : List Leg) (x y : Leg) → LongBox (a ++ x ∷ y ∷ b) →
 box-swap a b x y = box-same _ _ (same-behind a (x ∷ y ∷ b) (y ∷ x ∷ b) (swapped x y b))
 
 -- ---- a record split in two
-
--- the leg with so many contracts
-abbrev pub withContracts : ℕ → Leg → Leg
-withContracts n l =
-    record {
-      group = l .group;
-      side = l .side;
-      right = l .right;
-      style = l .style;
-      market = l .market;
-      size = l .size;
-      underlying = l .underlying;
-      strike = l .strike;
-      expiry = l .expiry;
-      contracts = contractsFrom n;
-    }
 
 kind-split : (t : Bool) (m n size : ℕ) → only t ((m + n) * size) ≡ only t (m * size) + only t (n * size)
 kind-split true m n size = omega arith

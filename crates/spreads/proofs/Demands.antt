@@ -15,7 +15,7 @@ use Rattle.spreads.specs.Prices.{net}
 use Rattle.spreads.specs.Spreads.{groupIn}
 use Rattle.spreads.specs.Strikes.{strikesOf, netsOf}
 use Rattle.spreads.specs.Calls.{groupChecks, listedAnswer, listedAfter, strikesListed, worksheetCall, listLeft, marginsFrom, groupsChecks, marginsCall}
-use Rattle.spreads.specs.Demands.{merged, SpreadJust, StrikesJust, WorstIsGreatest, Leaves, WorksheetLeaves, MarginsLeave, BoxJust, BoxNets, MarginsJust, JoiningLoses, JoiningCosts}
+use Rattle.spreads.specs.Demands.{merged, SpreadJust, StrikesJust, WorstIsGreatest, Leaves, WorksheetLeaves, MarginsLeave, BoxJust, BoxAnyOrder, BoxAnySplit, BoxNets, MarginsJust, JoiningLoses, JoiningCosts}
 use Rattle.spreads.specs.declared.calls.Listed.{Listed}
 use Rattle.spreads.specs.declared.calls.Listed.the-variants.{Entries, Refused}
 use Rattle.spreads.proofs.RuleLaws.{no-refusal-to-spread, spread-to-no-refusal}
@@ -24,6 +24,7 @@ use Rattle.spreads.proofs.Nets.{worst-greatest}
 use Rattle.spreads.proofs.MarginLists.{length-margins}
 use Rattle.spreads.proofs.Merge.{merge-groups}
 use Rattle.spreads.proofs.BoxLaws.{test-to-box, box-to-test, no-box-test, box-margin, other-margin, box-nets, merge-margins}
+use Rattle.spreads.proofs.BoxOrder.{box-swap, box-split, box-join}
 
 pub spread-just : SpreadJust
 spread-just g placement = (no-refusal-to-spread g placement, spread-to-no-refusal g placement)
@@ -38,6 +39,12 @@ worst-is-greatest = worst-greatest
 
 pub box-just : BoxJust
 box-just legs = (test-to-box legs, box-to-test legs)
+
+pub box-any-order : BoxAnyOrder
+box-any-order a b x y = (box-swap a b x y, box-swap a b y x)
+
+pub box-any-split : BoxAnySplit
+box-any-split a b l m n = (box-split a b l m n, box-join a b l m n)
 
 pub boxes-net : BoxNets
 boxes-net = box-nets

@@ -4,12 +4,13 @@ use Prim.Native.Nat.{ℕ, _+_, _*_, _-_, _≤_, _<_}
 use mathlib.Core.Path.{_≡_}
 use mathlib.Core.Bool.{true, _||_}
 use mathlib.Core.Logic.{_↔_, _≢_}
-use mathlib.Core.List.{List, [], _∷_, map, List·Memᴰ}
+use mathlib.Core.List.{List, [], _∷_, _++_, map, List·Memᴰ}
 use lib.Dec.{eqb}
 use lib.IntN.{ℤ, pos, negℤ}
 use lib.ListN.{length, take, drop}
 use lib.Signed.{_≤ℤ_}
 use Rattle.records.specs.Lists.{keep, All}
+use Rattle.records.specs.Legs.{contractsFrom}
 use Rattle.records.specs.Order.{firstOf}
 use Rattle.records.specs.Tables.{legsOf}
 use Rattle.records.specs.declared.legs.Leg.{Leg}
@@ -49,6 +50,30 @@ WorstIsGreatest = (legs : List Leg) → Greatest (pos (worstLoss legs)) (pos 0 �
 -- the test passes just where the sentence holds
 abbrev pub BoxJust : Type 0
 BoxJust = (legs : List Leg) → (isLongBox legs ≡ true) ↔ LongBox legs
+
+-- the leg with so many contracts
+abbrev pub withContracts : ℕ → Leg → Leg
+withContracts n l =
+    record {
+      group = l .group;
+      side = l .side;
+      right = l .right;
+      style = l .style;
+      market = l .market;
+      size = l .size;
+      underlying = l .underlying;
+      strike = l .strike;
+      expiry = l .expiry;
+      contracts = contractsFrom n;
+    }
+
+-- 'records of one kind added together': neither the order of records nor how one is split makes or unmakes a long box
+abbrev pub BoxAnyOrder : Type 0
+BoxAnyOrder = (a b : List Leg) (x y : Leg) → LongBox (a ++ x ∷ y ∷ b) ↔ LongBox (a ++ y ∷ x ∷ b)
+
+abbrev pub BoxAnySplit : Type 0
+BoxAnySplit = (a b : List Leg) (l : Leg) (m n : ℕ)
+    → LongBox (a ++ withContracts (m + n) l ∷ b) ↔ LongBox (a ++ withContracts m l ∷ withContracts n l ∷ b)
 
 -- at every price n/d, both sides taken d times, a long box nets units times the difference
 abbrev pub BoxNets : Type 0
