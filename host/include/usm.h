@@ -162,7 +162,11 @@ enum {
 void usm_check_table(uint64_t kind, const uint8_t *table, size_t table_len, uint64_t *answer);
 
 /*
- * The margin of group g of a placement.
+ * The margin of group g of a placement: the greatest of 0 and the losses at the strikes found in the
+ * group. A European long box, which loses nowhere, needs half of units times the difference of its two
+ * strikes, a half mill rounded up: all legs European, one expiry, and the same number of units long in
+ * calls at the lower strike, short in calls at the higher, long in puts at the higher and short in puts
+ * at the lower, records of one kind added together, with no leg of any other kind.
  *   success  { 0, margin, 0, 0 }
  *   refusals 1; 4 over the whole table; 6 to 13, table 2, place g as given.
  *            g may be any number; 0 and those above 32 are 6.
@@ -181,7 +185,7 @@ void usm_margins(const uint8_t *placement, size_t placement_len, uint64_t n,
 
 /*
  * The worksheet of group g: its distinct strikes, ascending, from strikes[0], and the net
- * at each from nets[0].
+ * at each from nets[0], of a European long box too.
  *   success  { 0, how many, 0, 0 }; entries beyond stay in both slices
  *   refusals as usm_margin; then 17, table 0, place the strikes needed, if either slice
  *            has fewer entries. 256 entries are always enough.

@@ -66,6 +66,9 @@ isCall l = eqb (l .right) 1
 abbrev pub isPut : Leg → Bool
 isPut l = eqb (l .right) 2
 
+abbrev pub isEuropean : Leg → Bool
+isEuropean l = eqb (l .style) 2
+
 -- ---- contracts and units
 
 -- 'A leg's units are its contracts times its unit size.'

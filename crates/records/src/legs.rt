@@ -23,13 +23,16 @@ pub const CALL: u8 = 1;
 
 pub const PUT: u8 = 2;
 
+// 'style': 1 American, 2 European
+pub const EUROPEAN: u8 = 2;
+
 pub struct Leg {
     pub group: u16,
     // LONG or SHORT
     pub side: u8,
     // the document's type, CALL or PUT
     pub right: u8,
-    // 1 American, 2 European
+    // EUROPEAN, or 1 for American
     pub style: u8,
     // 1 listed, 2 OTC
     pub market: u8,

@@ -17,6 +17,7 @@ pub use counts::Contracts;
 pub use counts::Units;
 pub use fields::u16_at;
 pub use legs::CALL;
+pub use legs::EUROPEAN;
 pub use legs::LONG;
 pub use legs::Leg;
 pub use legs::PUT;

@@ -15,7 +15,7 @@ use Rattle.spreads.specs.Prices.{net}
 use Rattle.spreads.specs.Spreads.{groupIn}
 use Rattle.spreads.specs.Strikes.{strikesOf, netsOf}
 use Rattle.spreads.specs.Calls.{groupChecks, listedAnswer, listedAfter, strikesListed, worksheetCall, listLeft, marginsFrom, groupsChecks, marginsCall}
-use Rattle.spreads.specs.Demands.{SpreadJust, StrikesJust, WorstIsGreatest, Leaves, WorksheetLeaves, MarginsLeave, JoiningCosts}
+use Rattle.spreads.specs.Demands.{merged, SpreadJust, StrikesJust, WorstIsGreatest, Leaves, WorksheetLeaves, MarginsLeave, BoxJust, BoxAnyOrder, BoxAnySplit, BoxNets, MarginsJust, JoiningLoses, JoiningCosts}
 use Rattle.spreads.specs.declared.calls.Listed.{Listed}
 use Rattle.spreads.specs.declared.calls.Listed.the-variants.{Entries, Refused}
 use Rattle.spreads.proofs.RuleLaws.{no-refusal-to-spread, spread-to-no-refusal}
@@ -23,6 +23,8 @@ use Rattle.spreads.proofs.StrikeLaws.{strikes-have, strikes-from, strik
 use Rattle.spreads.proofs.Nets.{worst-greatest}
 use Rattle.spreads.proofs.MarginLists.{length-margins}
 use Rattle.spreads.proofs.Merge.{merge-groups}
+use Rattle.spreads.proofs.BoxLaws.{test-to-box, box-to-test, no-box-test, box-margin, other-margin, box-nets, merge-margins}
+use Rattle.spreads.proofs.BoxOrder.{box-swap, box-split, box-join}
 
 pub spread-just : SpreadJust
 spread-just g placement = (no-refusal-to-spread g placement, spread-to-no-refusal g placement)
@@ -32,6 +34,23 @@ strikes-just legs = (strikes-have legs, strikes-from legs, strikes-ascending leg
 
 pub worst-is-greatest : WorstIsGreatest
 worst-is-greatest = worst-greatest
+
+-- ---- European long boxes
+
+pub box-just : BoxJust
+box-just legs = (test-to-box legs, box-to-test legs)
+
+pub box-any-order : BoxAnyOrder
+box-any-order a b x y = (box-swap a b x y, box-swap a b y x)
+
+pub box-any-split : BoxAnySplit
+box-any-split a b l m n = (box-split a b l m n, box-join a b l m n)
+
+pub boxes-net : BoxNets
+boxes-net = box-nets
+
+pub margins-just : MarginsJust
+margins-just legs = record { box = box-margin legs; other = λ h. other-margin legs (no-box-test legs h) }
 
 -- ---- what is left in a lent slice
 
@@ -77,5 +96,8 @@ pub margins-leave : MarginsLeave
 margins-leave placement n out =
     leaves (marginsCall placement n (length out)) (marginsFrom (legsOf placement) 1 n) out (margins-listed placement n (length out))
 
+pub joining-loses : JoiningLoses
+joining-loses = merge-groups
+
 pub joining-costs : JoiningCosts
-joining-costs = merge-groups
+joining-costs g k placement ne sg sk other = merge-margins g k placement ne sg sk (no-box-test (merged g k placement) other)

@@ -1,21 +1,24 @@
 -- What is demanded of one group and of the calls about it, each statement under its sentence. The proofs stand in
 -- proofs/Demands.antt. That margins cover every price, and that none smaller does, is said of sheets, in their own crate.
-use Prim.Native.Nat.{ℕ, _+_, _≤_, _<_}
+use Prim.Native.Nat.{ℕ, _+_, _*_, _-_, _≤_, _<_}
 use mathlib.Core.Path.{_≡_}
-use mathlib.Core.Bool.{_||_}
+use mathlib.Core.Bool.{true, _||_}
 use mathlib.Core.Logic.{_↔_, _≢_}
-use mathlib.Core.List.{List, [], _∷_, map, List·Memᴰ}
+use mathlib.Core.List.{List, [], _∷_, _++_, map, List·Memᴰ}
 use lib.Dec.{eqb}
 use lib.IntN.{ℤ, pos, negℤ}
 use lib.ListN.{length, take, drop}
 use lib.Signed.{_≤ℤ_}
 use Rattle.records.specs.Lists.{keep, All}
+use Rattle.records.specs.Legs.{contractsFrom}
 use Rattle.records.specs.Order.{firstOf}
 use Rattle.records.specs.Tables.{legsOf}
 use Rattle.records.specs.declared.legs.Leg.{Leg}
 use Rattle.records.specs.declared.refusals.Fault.the-variants.{Nothing}
 use Rattle.spreads.specs.Spreads.{groupOf, groupIn, Spread, groupRule}
+use Rattle.spreads.specs.Prices.{longAt, shortAt, at}
 use Rattle.spreads.specs.Strikes.{strikesOf, worstLoss, netsOf}
+use Rattle.spreads.specs.Boxes.{LongBox, isLongBox, halfOf, marginOf}
 use Rattle.spreads.specs.Calls.{worksheetCall, listLeft, marginsFrom, marginsCall}
 use Rattle.spreads.specs.declared.calls.Listed.{Listed}
 use Rattle.spreads.specs.declared.calls.Listed.the-variants.{Entries, Refused}
@@ -42,6 +45,51 @@ Greatest z zs = List·Memᴰ z zs × All (λ y. y ≤ℤ z) zs
 abbrev pub WorstIsGreatest : Type 0
 WorstIsGreatest = (legs : List Leg) → Greatest (pos (worstLoss legs)) (pos 0 ∷ map negℤ (netsOf legs))
 
+-- ---- 'European long boxes'
+
+-- the test passes just where the sentence holds
+abbrev pub BoxJust : Type 0
+BoxJust = (legs : List Leg) → (isLongBox legs ≡ true) ↔ LongBox legs
+
+-- the leg with so many contracts
+abbrev pub withContracts : ℕ → Leg → Leg
+withContracts n l =
+    record {
+      group = l .group;
+      side = l .side;
+      right = l .right;
+      style = l .style;
+      market = l .market;
+      size = l .size;
+      underlying = l .underlying;
+      strike = l .strike;
+      expiry = l .expiry;
+      contracts = contractsFrom n;
+    }
+
+-- 'records of one kind added together': neither the order of records nor how one is split makes or unmakes a long box
+abbrev pub BoxAnyOrder : Type 0
+BoxAnyOrder = (a b : List Leg) (x y : Leg) → LongBox (a ++ x ∷ y ∷ b) ↔ LongBox (a ++ y ∷ x ∷ b)
+
+abbrev pub BoxAnySplit : Type 0
+BoxAnySplit = (a b : List Leg) (l : Leg) (m n : ℕ)
+    → LongBox (a ++ withContracts (m + n) l ∷ b) ↔ LongBox (a ++ withContracts m l ∷ withContracts n l ∷ b)
+
+-- at every price n/d, both sides taken d times, a long box nets units times the difference
+abbrev pub BoxNets : Type 0
+BoxNets = (legs : List Leg) (b : LongBox legs) (d n : ℕ)
+    → longAt d (at n) legs ≡ shortAt d (at n) legs + d * (b .units * (b .high - b .low))
+
+-- 'Its margin is half of units times the difference, a half mill rounded up'; that of any other group is its worst loss
+pub record MarginJust (legs : List Leg) : Type 0 where
+  pub box : (b : LongBox legs) → marginOf legs ≡ halfOf (b .units) (b .low) (b .high)
+  pub other : ¬ LongBox legs → marginOf legs ≡ worstLoss legs
+
+abbrev pub MarginsJust : Type 0
+MarginsJust = (legs : List Leg) → MarginJust legs
+
+-- ---- what is left in lent slices
+
 -- 'Nothing lent is written' on a refusal. 'In every call that succeeds, what lies past its output in a lent slice stays.'
 module _ {A : Type 0} where
   abbrev pub Leaves : Listed → List A → List A → List A → Type 0
@@ -64,7 +112,13 @@ MarginsLeave = (placement : List ℕ) (n : ℕ) (out : List ℤ)
 unfoldable pub merged : ℕ → ℕ → List Leg → List Leg
 merged g k legs = keep (λ l. eqb (l .group) g || eqb (l .group) k) legs
 
--- joining two groups that are spreads never costs more than the two by themselves
+-- two groups that are spreads never lose more together than by themselves
+abbrev pub JoiningLoses : Type 0
+JoiningLoses = (g k : ℕ) (placement : List Leg) → g ≢ k → Spread g (groupOf g placement) → Spread k (groupOf k placement)
+    → worstLoss (merged g k placement) ≤ worstLoss (groupOf g placement) + worstLoss (groupOf k placement)
+
+-- and joining them costs no more, unless what is joined is a long box
 abbrev pub JoiningCosts : Type 0
 JoiningCosts = (g k : ℕ) (placement : List Leg) → g ≢ k → Spread g (groupOf g placement) → Spread k (groupOf k placement)
-    → worstLoss (merged g k placement) ≤ worstLoss (groupOf g placement) + worstLoss (groupOf k placement)
+    → ¬ LongBox (merged g k placement)
+    → marginOf (merged g k placement) ≤ marginOf (groupOf g placement) + marginOf (groupOf k placement)

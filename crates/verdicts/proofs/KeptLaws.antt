@@ -15,7 +15,7 @@ use Rattle.records.proofs.TableLaws.{whole, length-claims}
 use Rattle.spreads.specs.Calls.{groupChecks}
 use Rattle.spreads.specs.Spreads.{groupIn, groupRule}
 use Rattle.spreads.specs.Steps.{Checked}
-use Rattle.spreads.specs.Strikes.{marginOf}
+use Rattle.spreads.specs.Boxes.{marginOf}
 use Rattle.spreads.proofs.RuleLaws.{spread-to-no-refusal}
 use Rattle.sheets.specs.Demands.{Sound, Kept}
 use Rattle.sheets.proofs.ClaimLaws.{claim-at}

@@ -9,7 +9,8 @@ use lib.ListN.{length, take, getD, length-append}
 use lib.Seq.{take-all}
 use Rattle.records.specs.declared.legs.Leg.{Leg}
 use Rattle.spreads.specs.Spreads.{groupOf}
-use Rattle.spreads.specs.Strikes.{strikesOf, marginOf, netsOf}
+use Rattle.spreads.specs.Strikes.{strikesOf, netsOf}
+use Rattle.spreads.specs.Boxes.{marginOf}
 use Rattle.verdicts.specs.Printed.{decimalOf, amountOf, space, newline}
 use Rattle.verdicts.specs.TableText.{Shown, shownOf, shownIn, groupWord, groupLine, strikeLine, strikeLines, groupText, shownText}
 

@@ -1,5 +1,5 @@
 -- The demands of specs/TableDemands.antt, proved.
-use mathlib.Core.Path.{_≡_, refl, ap}
+use mathlib.Core.Path.{_≡_, refl, ap, _∙_}
 use mathlib.Core.List.{List, [], _∷_}
 use Prim.Native.Nat.{ℕ, zero, suc}
 use native.Mathlib.Omega.{arith}
@@ -12,12 +12,14 @@ use Rattle.records.proofs.ListLaws.{all-append}
 use Rattle.records.proofs.Measures.{sum-append}
 use Rattle.blocks.specs.File.{tablesIn}
 use Rattle.spreads.specs.Spreads.{groupOf}
-use Rattle.spreads.specs.Strikes.{marginOf, lossOf}
+use Rattle.spreads.specs.Strikes.{lossOf}
+use Rattle.spreads.specs.Boxes.{LongBox, halfOf, marginOf}
 use Rattle.spreads.proofs.Nets.{margin-nets}
+use Rattle.spreads.proofs.BoxLaws.{no-box-test, box-margin, other-margin}
 use Rattle.sheets.specs.Sheets.{claimFor, totalOf}
 use Rattle.sheets.proofs.Groups.{total, total-ext, total-claims}
 use Rattle.verdicts.specs.TableText.{shownOf, shownIn, tableText}
-use Rattle.verdicts.specs.TableDemands.{TableReadsBack, TableTotal, TableMargins, RefusedPrints}
+use Rattle.verdicts.specs.TableDemands.{TableReadsBack, TableTotal, TableMargins, TableBoxes, RefusedPrints}
 use Rattle.verdicts.proofs.Demands.{file-just}
 use Rattle.verdicts.proofs.ReadBack.{table-read}
 use Rattle.verdicts.proofs.Worksheets.{length-nets}
@@ -29,10 +31,18 @@ module _ (placement : List Leg) where
   shown-total (suc n) =
       omega (arith, sum-append (λ s. s .margin) (shownIn n placement) (shownOf (suc n) (groupOf (suc n) placement) ∷ []), shown-total n)
 
-  shown-margins : (n : ℕ) → All (λ s. s .margin ≡ most lossOf (s .nets)) (shownIn n placement)
-  unfolding shownIn marginOf
+  shown-margins : (n : ℕ) → All (λ s. ¬ LongBox (groupOf (s .group) placement) → s .margin ≡ most lossOf (s .nets)) (shownIn n placement)
+  unfolding shownIn
   shown-margins zero = tt
-  shown-margins (suc n) = all-append _ (shownIn n placement) _ (shown-margins n) (margin-nets (groupOf (suc n) placement), tt)
+  shown-margins (suc n) =
+      let legs = groupOf (suc n) placement in
+      all-append _ (shownIn n placement) _ (shown-margins n) ((λ other. other-margin legs (no-box-test legs other) ∙ margin-nets legs), tt)
+
+  shown-boxes : (n : ℕ)
+      → All (λ s. (b : LongBox (groupOf (s .group) placement)) → s .margin ≡ halfOf (b .units) (b .low) (b .high)) (shownIn n placement)
+  unfolding shownIn
+  shown-boxes zero = tt
+  shown-boxes (suc n) = all-append _ (shownIn n placement) _ (shown-boxes n) (box-margin (groupOf (suc n) placement), tt)
 
   shown-even : (n : ℕ) → All (λ s. length (s .nets) ≡ length (s .strikes)) (shownIn n placement)
   unfolding shownIn
@@ -62,6 +72,9 @@ table-total file n amount e =
 
 pub table-margins : TableMargins
 table-margins file n total e = rw (table-reads-back file n (pos total) e) (shown-margins (legsOf (tablesIn file .placement)) n)
+
+pub table-boxes : TableBoxes
+table-boxes file n total e = rw (table-reads-back file n (pos total) e) (shown-boxes (legsOf (tablesIn file .placement)) n)
 
 pub refused-prints : RefusedPrints
 unfolding tableText

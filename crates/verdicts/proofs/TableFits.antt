@@ -16,8 +16,10 @@ use Rattle.records.proofs.TableLaws.{Ranges}
 use Rattle.spreads.specs.Prices.{net}
 use Rattle.spreads.specs.Spreads.{groupOf, groupIn}
 use Rattle.spreads.specs.Steps.{Checked, strikesEnd}
-use Rattle.spreads.specs.Strikes.{insert, strikesOf, marginOf, netsOf}
-use Rattle.spreads.proofs.Bounds.{sides-small, table-few, group-ranges, group-few, margin-small}
+use Rattle.spreads.specs.Strikes.{insert, strikesOf, netsOf}
+use Rattle.spreads.specs.Boxes.{marginOf}
+use Rattle.spreads.proofs.Bounds.{sides-small, table-few, group-ranges, group-few}
+use Rattle.spreads.proofs.BoxBounds.{margin-small}
 use Rattle.spreads.proofs.Inserting.{inserting}
 use Rattle.spreads.proofs.Inserting as inserted
 use Rattle.spreads.proofs.Signed.{abs-minus}

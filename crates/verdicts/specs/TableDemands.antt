@@ -7,7 +7,9 @@ use Rattle.records.specs.Lists.{sumOf, most, All}
 use Rattle.records.specs.Tables.{legsOf}
 use Rattle.records.specs.declared.refusals.Refusal.{Refusal}
 use Rattle.blocks.specs.File.{tablesIn}
+use Rattle.spreads.specs.Spreads.{groupIn}
 use Rattle.spreads.specs.Strikes.{lossOf}
+use Rattle.spreads.specs.Boxes.{LongBox, halfOf}
 use Rattle.sheets.specs.declared.sheet.Verdict.the-variants.{Accepted, Refused}
 use Rattle.verdicts.specs.FileVerdicts.{fileVerdict}
 use Rattle.verdicts.specs.Printed.{refuseLine}
@@ -23,10 +25,16 @@ TableReadsBack = (file : List ℕ) (n : ℕ) (total : ℤ) → fileVerdict file 
 abbrev pub TableTotal : Type 0
 TableTotal = (file : List ℕ) (n total : ℕ) → fileVerdict file ≡ Accepted n (pos total) → sumOf (λ s. s .margin) (tableIn (tableText file)) ≡ total
 
--- 'then a line `strike net` for each distinct strike': each margin is the greatest of 0 and the losses of the lines under it
+-- 'then a line `strike net` for each distinct strike': the margin of a group that is no long box is the greatest of 0 and the
+-- losses of the lines under it
 abbrev pub TableMargins : Type 0
 TableMargins = (file : List ℕ) (n total : ℕ) → fileVerdict file ≡ Accepted n (pos total)
-    → All (λ s. s .margin ≡ most lossOf (s .nets)) (tableIn (tableText file))
+    → All (λ s. ¬ LongBox (groupIn (tablesIn file .placement) (s .group)) → s .margin ≡ most lossOf (s .nets)) (tableIn (tableText file))
+
+-- document 02, [2]: that of a long box is 'half of units times the difference, a half mill rounded up'
+abbrev pub TableBoxes : Type 0
+TableBoxes = (file : List ℕ) (n total : ℕ) → fileVerdict file ≡ Accepted n (pos total)
+    → All (λ s. (b : LongBox (groupIn (tablesIn file .placement) (s .group))) → s .margin ≡ halfOf (b .units) (b .low) (b .high)) (tableIn (tableText file))
 
 -- 'A refused sheet prints only its REFUSE line'
 abbrev pub RefusedPrints : Type 0

@@ -7,7 +7,8 @@ use Rattle.records.specs.Tables.{legsOf}
 use Rattle.records.specs.declared.legs.Leg.{Leg}
 use Rattle.blocks.specs.File.{tablesIn}
 use Rattle.spreads.specs.Spreads.{groupOf}
-use Rattle.spreads.specs.Strikes.{strikesOf, marginOf, netsOf}
+use Rattle.spreads.specs.Strikes.{strikesOf, netsOf}
+use Rattle.spreads.specs.Boxes.{marginOf}
 use Rattle.sheets.specs.declared.sheet.Verdict.{Verdict}
 use Rattle.sheets.specs.declared.sheet.Verdict.the-variants.{Accepted, Refused}
 use Rattle.verdicts.specs.FileVerdicts.{fileVerdict}

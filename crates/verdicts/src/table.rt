@@ -8,7 +8,7 @@ ghost use Rattle.records.specs.Written.{putAt};
 ghost use Rattle.blocks.specs.Reader.{judged};
 ghost use Rattle.blocks.specs.declared.reader.Reading.the-variants.{Read};
 ghost use Rattle.spreads.specs.Spreads.{groupIn};
-ghost use Rattle.spreads.specs.Strikes.{marginOf};
+ghost use Rattle.spreads.specs.Boxes.{marginOf};
 ghost use Rattle.verdicts.specs.Printed.{Piece};
 ghost use Rattle.verdicts.specs.TableText.{groupLine, groupText, shownIn, shownOf, shownText, strikeLine, strikeLines, tableText};
 ghost use Rattle.verdicts.specs.Steps.{Answered, ShownBy, worksheetLines};

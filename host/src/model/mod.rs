@@ -4,6 +4,7 @@
 //! against each other, and the benchmark runs them side by side. Its calls have the
 //! same signatures as the wrapper's at the top of this package.
 
+mod boxes;
 mod file;
 mod sheet;
 mod spread;

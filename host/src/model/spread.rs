@@ -1,5 +1,6 @@
 //! "The rule of a spread": one group's legs, its worksheet and its margin.
 
+use super::boxes;
 use crate::records::{Leg, OptionType, Side, Table, MOST_CLAIMS};
 use crate::refusal::Refusal;
 
@@ -90,9 +91,17 @@ pub fn worksheet(legs: &[Leg]) -> Vec<Row> {
     strikes.into_iter().map(|strike| Row { strike, net: net(legs, strike) }).collect()
 }
 
-/// The greatest of 0 and the losses at the exercise prices.
-pub fn margin(legs: &[Leg]) -> i64 {
+/// The margin by document 01: the greatest of 0 and the losses at the exercise prices.
+fn worst_loss(legs: &[Leg]) -> i64 {
     worksheet(legs).iter().map(|row| -row.net).max().unwrap_or(0).max(0)
+}
+
+/// Half of what a European long box is about, a half mill rounded up; of all other spreads the worst loss.
+pub fn margin(legs: &[Leg]) -> i64 {
+    match boxes::aggregate_difference(legs) {
+        Some(mills) => (mills + 1) / 2,
+        None => worst_loss(legs),
+    }
 }
 
 /// The margins of groups 1 to `n`, or the refusal of the lowest that is no spread.

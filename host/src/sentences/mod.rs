@@ -2,6 +2,7 @@
 //! count, the field that is out of range, the amounts on each side.
 
 mod blocks;
+mod boxes;
 mod fields;
 mod groups;
 mod rules;
@@ -12,6 +13,7 @@ use crate::reason::Reason;
 use crate::refusal::Refusal;
 use crate::sheet::Sheet;
 
+pub use boxes::of_box;
 pub(crate) use short::short;
 
 /// The sentence of a refusal that the check of this file, or its reader, answered.

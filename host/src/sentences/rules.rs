@@ -1,5 +1,6 @@
 //! Refusals 5 and 14 to 16: what a sheet's records say, and what they should.
 
+use super::boxes::of_box;
 use crate::numbers::{count, dollars, ordinal};
 use crate::reason::Reason;
 use crate::records::{Leg, Side};
@@ -76,8 +77,10 @@ fn contracts(sheet: &Sheet, leg: &Leg) -> String {
 pub fn claim_sentence(sheet: &Sheet, group: u64) -> Option<String> {
     let claimed = sheet.claims.iter().find(|claim| u64::from(claim.group) == group)?.margin;
     let due = sheet.margin(group).ok()?;
+    let half =
+        of_box(due, &sheet.worksheet(group).ok()?).map_or_else(String::new, |half| format!(", {half}"));
     Some(format!(
-        "group {group} claims {} ({claimed} mills); its margin is {} ({due} mills)",
+        "group {group} claims {} ({claimed} mills); its margin is {} ({due} mills){half}",
         dollars(claimed),
         dollars(due),
     ))

@@ -1,9 +1,10 @@
-//! "Accounts on the bench" and "Errors that look right" of document 01, run against the
+//! "Accounts on the bench" and "Errors that look right" of document 01, and what document 02 adds, run against the
 //! library and the model alike.
 
 #![forbid(unsafe_code)]
 
 mod bench;
+mod boxes;
 mod files;
 mod limits;
 mod look_right;

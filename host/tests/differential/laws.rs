@@ -4,7 +4,7 @@
 use std::collections::BTreeMap;
 use std::fmt::Display;
 
-use usm::{Claim, Leg, OptionType, Sheet, Side};
+use usm::{Claim, Leg, OptionType, Sheet, Side, Style};
 
 use crate::random::Random;
 
@@ -46,12 +46,24 @@ pub fn margins_cover_every_price(case: &dyn Display, random: &mut Random, sheet:
     }
 }
 
-/// No margin of an accepted sheet is larger than it must be: it is 0, or the loss at some
-/// strike.
+/// No margin of an accepted sheet is larger than it must be: it is 0, or the loss at some strike, or what
+/// a European long box needs.
 pub fn margins_are_reached(case: &dyn Display, sheet: &Sheet) {
     for Claim { group, margin } in &sheet.claims {
         let worksheet = sheet.worksheet(u64::from(*group)).expect("a spread");
-        let reached = *margin == 0 || worksheet.iter().any(|(_, net)| -net == *margin);
+        let legs: Vec<&Leg> = sheet.placement.iter().filter(|leg| leg.group == *group).collect();
+        let reached = *margin == 0
+            || worksheet.iter().any(|(_, net)| -net == *margin)
+            || *margin == half_of_a_box(&legs, &worksheet);
         assert!(reached, "{case}: group {group}: {margin} is the loss at no strike of {worksheet:?}");
+    }
+}
+
+/// What European options of one expiry need that gain the same at their only two strikes: half of that.
+fn half_of_a_box(legs: &[&Leg], worksheet: &[(u32, i64)]) -> i64 {
+    let alike = legs.iter().all(|leg| leg.style == Style::European && leg.expiry == legs[0].expiry);
+    match worksheet {
+        [(_, low), (_, high)] if alike && low == high && *low > 0 => low - low / 2,
+        _ => 0,
     }
 }

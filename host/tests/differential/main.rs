@@ -6,6 +6,7 @@
 
 #![forbid(unsafe_code)]
 
+mod boxes;
 mod cases;
 mod compare;
 mod faults;
@@ -28,7 +29,7 @@ const ALL_BUT_DAMAGE: [usize; 17] = [0, 1, 3, 4, 5, 6, 7, 8, 9, 10, 11, 12, 13, 
 
 #[test]
 fn valid_sheets() {
-    run("valid_sheets", 20, &[0, 6, 17], |case, random, tally| {
+    run("valid_sheets", 18, &[0, 6, 17], |case, random, tally| {
         let sheet = sheets::valid(random);
         let tables = sheet.tables();
         assert_eq!(compare::check_sheet(case, &tables), 0, "{case}: a sheet that should be accepted");
@@ -40,7 +41,7 @@ fn valid_sheets() {
 
 #[test]
 fn one_fault() {
-    run("one_fault", 25, &ALL_BUT_DAMAGE, |case, random, tally| {
+    run("one_fault", 22, &ALL_BUT_DAMAGE, |case, random, tally| {
         let mut tables = sheets::valid(random).tables();
         faults::one(random, &mut tables);
         try_tables(case, random, &tables, tally);
@@ -49,7 +50,7 @@ fn one_fault() {
 
 #[test]
 fn two_or_more_faults() {
-    run("two_or_more_faults", 20, &ALL_BUT_DAMAGE, |case, random, tally| {
+    run("two_or_more_faults", 18, &ALL_BUT_DAMAGE, |case, random, tally| {
         let mut tables = sheets::valid(random).tables();
         for _ in 0..2 + random.below(2) {
             faults::one(random, &mut tables);
@@ -60,7 +61,7 @@ fn two_or_more_faults() {
 
 #[test]
 fn garbage_tables() {
-    run("garbage_tables", 5, &[0, 1, 4], |case, random, tally| {
+    run("garbage_tables", 4, &[0, 1, 4], |case, random, tally| {
         let tables = worlds::garbage(random);
         try_tables(case, random, &tables, tally);
     });
@@ -68,16 +69,29 @@ fn garbage_tables() {
 
 #[test]
 fn tiny_worlds() {
-    run("tiny_worlds", 10, &[0, 5, 6, 7, 8, 9, 10, 11, 12, 13, 14, 15, 16, 17], |case, random, tally| {
+    run("tiny_worlds", 9, &[0, 5, 6, 7, 8, 9, 10, 11, 12, 13, 14, 15, 16, 17], |case, random, tally| {
         let tables = worlds::tiny_world(random);
         try_tables(case, random, &tables, tally);
+    });
+}
+
+/// European long boxes and what is nearly one: only the margin tells them apart.
+#[test]
+fn near_boxes() {
+    run("near_boxes", 10, &[0, 8, 10, 11, 12, 13, 16], |case, random, tally| {
+        let sheet = boxes::sheet(random);
+        if sheet.check().is_ok() {
+            laws::margins_cover_every_price(case, random, &sheet);
+            laws::margins_are_reached(case, &sheet);
+        }
+        try_tables(case, random, &sheet.tables(), tally);
     });
 }
 
 #[test]
 fn damaged_files() {
     let wanted = [0, 1, 2, 3, 4, 5, 6, 10, 11, 12, 14, 17];
-    run("damaged_files", 20, &wanted, |case, random, tally| {
+    run("damaged_files", 19, &wanted, |case, random, tally| {
         let mut tables = sheets::valid(random).tables();
         if random.one_in(4) {
             faults::one(random, &mut tables);

@@ -16,6 +16,11 @@ pub fn no_spread() -> Sheet {
     placed(&[leg("L60p"), in_group(0, leg("L50p"))], &[])
 }
 
+/// P5's legs as European ones.
+fn european_box() -> [Leg; 4] {
+    ["L50c", "S60c", "L60p", "S50p"].map(|notation| Leg { style: Style::European, ..leg(notation) })
+}
+
 fn case(name: &str, sheet: Sheet) -> Case {
     (String::from(name), sheet.to_file().expect("a file"))
 }
@@ -64,5 +69,6 @@ pub fn rules() -> Vec<Case> {
         case("placed and not held", held_less),
         case("an unplaced short", unplaced),
         case("a claim a mill short", Sheet { claims, ..sheet }),
+        case("a European long box that claims nothing", placed(&european_box(), &[0])),
     ]
 }

@@ -1,7 +1,7 @@
 //! `margins` and `worksheet`.
 
 use usm::accounts::{in_group, leg, placed, times};
-use usm::Leg;
+use usm::{Leg, Style};
 
 use crate::{folder, run, told};
 
@@ -60,6 +60,24 @@ $70.000    -$500.000              ------------|
     let (status, printed, sentence) = told(run(&folder, &["worksheet", "-", "one"], &file));
     let number = "sheet: expected the number of a group, found `one`\n";
     assert_eq!((status, printed.as_str(), sentence.as_str()), (2, "", number));
+}
+
+#[test]
+fn a_european_long_box_is_told_what_its_margin_is_half_of() {
+    let legs =
+        ["L50c", "S60c", "L60p", "S50p"].map(|notation| Leg { style: Style::European, ..leg(notation) });
+    let file = placed(&legs, &[]).to_file().expect("a file");
+    let printed = "\
+group 1, margin $500.000 (500000 mills), half of $1,000.000, the difference in strikes of this \
+European long box times its units
+ strike         net
+$50.000  $1,000.000  |++++++++++++++++++++++++
+$60.000  $1,000.000  |++++++++++++++++++++++++
+";
+    let folder = folder("tool-box");
+    assert_eq!(told(run(&folder, &["worksheet", "-", "1"], &file)), (0, printed.into(), String::new()));
+    let printed = "group  1  500000 mills  $500.000\n";
+    assert_eq!(told(run(&folder, &["margins", "-"], &file)), (0, printed.into(), String::new()));
 }
 
 /// Of the worksheet of group 1 of these legs, the lines below its head.

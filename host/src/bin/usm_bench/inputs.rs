@@ -1,7 +1,7 @@
 //! Ordinary sheets that are timed.
 
 use usm::accounts::{in_group, leg};
-use usm::{Claim, Leg, OptionType, Sheet, Side};
+use usm::{Claim, Leg, OptionType, Sheet, Side, Style};
 
 /// `groups` spreads of `legs` legs each, every leg a line of its own; the holdings stand in
 /// another order than the placement.
@@ -50,4 +50,11 @@ fn spread(strike: u32, group: u16, count: usize) -> Vec<Leg> {
         add(Side::Long, option_type, 10);
     }
     legs
+}
+
+/// P5's legs as European ones, each in so many records.
+pub fn long_box(records: usize) -> Vec<Leg> {
+    let kinds =
+        ["L50c", "S60c", "L60p", "S50p"].map(|notation| Leg { style: Style::European, ..leg(notation) });
+    kinds.iter().copied().cycle().take(kinds.len() * records).collect()
 }

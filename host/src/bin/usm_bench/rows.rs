@@ -2,10 +2,10 @@
 
 use usm::block::{BLOCK_BYTES, LONGEST_FILE};
 use usm::both::{Calls, LIBRARY, MODEL};
-use usm::{leg_table, Accepted, Refusal, Sheet, Table, Tables, MOST_CLAIMS, MOST_LEGS};
+use usm::{leg_table, Accepted, Leg, Refusal, Sheet, Table, Tables, MOST_CLAIMS, MOST_LEGS};
 
 use crate::crafted;
-use crate::inputs::{sheet, typical_sheets};
+use crate::inputs::{long_box, sheet, typical_sheets};
 
 pub struct Row {
     pub name: &'static str,
@@ -50,6 +50,13 @@ fn file_table(name: &'static str, file: &[u8]) -> Row {
     row(name, |calls| {
         let file = file.to_vec();
         move || (calls.file_table)(&file).len() as u64
+    })
+}
+
+fn margin(name: &'static str, legs: &[Leg]) -> Row {
+    row(name, |calls| {
+        let placement = leg_table(legs);
+        move || folded((calls.margin)(&placement, 1), |margin| margin as u64)
     })
 }
 
@@ -143,6 +150,8 @@ fn ordinary() -> Vec<Row> {
         check_sheet("check sheet, typical (60 legs, 12 groups)", &typical.tables()),
         check_sheet("check sheet, full (256/256/32)", &full.tables()),
         check_sheet("check sheet, one group of 256 strikes", &wide.tables()),
+        margin("margin of a European long box (4 legs)", &long_box(1)),
+        margin("margin of a European long box (256 legs)", &long_box(MOST_LEGS / 4)),
         margins("margins of one group of 256 strikes", &wide),
         margins("margins of 32 groups of 8", &full),
         margins("margins of one group of one strike", &crafted::one_strike()),

@@ -1,7 +1,7 @@
 //! Samples that are accepted.
 
 use usm::accounts::{in_group, leg, placed, times};
-use usm::{Leg, Sheet};
+use usm::{Leg, Sheet, Style};
 
 use crate::list::{iron_condor, sample, Sample};
 
@@ -25,8 +25,13 @@ pub fn spreads() -> Vec<Sample> {
         ),
         sample(
             "box",
-            "A long box gains at every price; its margin is 0, not less.",
-            placed(&[leg("L50c"), leg("S60c"), leg("L60p"), leg("S50p")], &[0]),
+            "A long box of American options gains at every price; its margin is 0, not less.",
+            placed(&long_box(Style::American), &[0]),
+        ),
+        sample(
+            "european-box",
+            "The same long box of European options: half of the difference in strikes times units.",
+            placed(&long_box(Style::European), &[500_000]),
         ),
         sample(
             "calendar",
@@ -39,6 +44,11 @@ pub fn spreads() -> Vec<Sample> {
             placed(&[Leg { unit_size: 10, contracts: 10, ..leg("L60c") }, leg("S50c")], &[1_000_000]),
         ),
     ]
+}
+
+/// P5's legs in this style.
+fn long_box(style: Style) -> [Leg; 4] {
+    ["L50c", "S60c", "L60p", "S50p"].map(|notation| Leg { style, ..leg(notation) })
 }
 
 /// About the placement as a whole, and accepted.

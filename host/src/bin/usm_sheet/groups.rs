@@ -59,9 +59,10 @@ pub fn worksheet(name: &OsStr, group: &OsStr) -> Result<ExitCode, String> {
     match sheet.worksheet(number) {
         Ok(rows) => {
             let margin = sheet.margin(number).map_err(|refusal| refusal.to_string())?;
+            let half = sentences::of_box(margin, &rows).map_or_else(String::new, |half| format!(", {half}"));
+            let head = format!("group {number}, margin {} ({margin} mills){half}\n", dollars(margin));
             let mut output = Output::new();
-            output
-                .print(format!("group {number}, margin {} ({margin} mills)\n", dollars(margin)).as_bytes())?;
+            output.print(head.as_bytes())?;
             output.print(plot::table(&rows).as_bytes())?;
             output.end()?;
         }

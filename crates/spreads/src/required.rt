@@ -1,0 +1,87 @@
+// What a group is asked: half the difference for a European long box, its worst loss otherwise.
+ghost use mathlib.Core.Path.{_≡_};
+ghost use Prim.Native.Nat.{_≤_};
+ghost use lib.ListN.{length};
+ghost use Rattle.records.specs.Claims.{mostMills};
+ghost use Rattle.spreads.specs.Spreads.{groupIn};
+ghost use Rattle.spreads.specs.Strikes.{strikesOf};
+ghost use Rattle.spreads.specs.Boxes.{marginOf};
+ghost use Rattle.spreads.specs.Steps.{Checked};
+ghost use Rattle.spreads.specs.Members.{legsAt, OneGroup};
+ghost use Rattle.spreads.specs.Links.{Linked};
+use crate::boxes::Boxed;
+use crate::boxes::box_at;
+use crate::links::find_members;
+use crate::members::FEW_LEGS;
+use crate::strikes::list_strikes;
+use crate::walk::worst_at;
+use records::MOST_LEGS;
+
+// The margin of a spread with these strikes; what is lent has room for each leg.
+fn margin_at(
+    placement: &[u8],
+    members: &[u16],
+    list: &[u32],
+    strikes: &mut [u32],
+    units: &mut [u32],
+) -> u64
+    requires { ⌜ OneGroup (now placement) (now members) ⌝ }
+    requires { ⌜ now list ≡ strikesOf (legsAt (now placement) (now members)) ⌝ }
+    requires { ⌜ (length (now members) ≤ length (now strikes)) × (length (now members) ≤ length (now units)) ⌝ }
+    ensures { λ r. ⌜ (r ≡ marginOf (legsAt (now (placement .entry)) (now (members .entry)))) × (r ≤ mostMills) ⌝ }
+{
+    if list.len() != 2 {
+        return worst_at(placement, members, list, strikes, units);
+    }
+    let low = list[0];
+    let high = list[1];
+    match box_at(placement, members, low, high) {
+        Boxed::Units(number) => (number * (high - low) as u64 + 1) / 2,
+        Boxed::Not => worst_at(placement, members, list, strikes, units),
+    }
+}
+
+// The margin of a spread whose legs stand at these places; what is lent has room for each leg.
+fn margin_with(
+    placement: &[u8],
+    members: &[u16],
+    list: &mut [u32],
+    strikes: &mut [u32],
+    units: &mut [u32],
+) -> u64
+    requires { ⌜ OneGroup (now placement) (now members) ⌝ }
+    requires { ⌜ length (now members) ≤ length (now list) ⌝ }
+    requires { ⌜ (length (now members) ≤ length (now strikes)) × (length (now members) ≤ length (now units)) ⌝ }
+    ensures { λ r. ⌜ (r ≡ marginOf (legsAt (now (placement .entry)) (now (members .entry)))) × (r ≤ mostMills) ⌝ }
+{
+    let count = list_strikes(placement, members, list);
+    margin_at(placement, members, &list[..count], strikes, units)
+}
+
+// The same with room of its own. Small groups are many: they spare the clearing of room for the largest.
+fn margin_of(placement: &[u8], members: &[u16]) -> u64
+    requires { ⌜ OneGroup (now placement) (now members) ⌝ }
+    ensures { λ r. ⌜ (r ≡ marginOf (legsAt (now (placement .entry)) (now (members .entry)))) × (r ≤ mostMills) ⌝ }
+{
+    if members.len() <= FEW_LEGS {
+        let mut list = [0u32; FEW_LEGS];
+        let mut strikes = [0u32; FEW_LEGS];
+        let mut units = [0u32; FEW_LEGS];
+        return margin_with(placement, members, &mut list, &mut strikes, &mut units);
+    }
+    let mut list = [0u32; MOST_LEGS];
+    let mut strikes = [0u32; MOST_LEGS];
+    let mut units = [0u32; MOST_LEGS];
+    margin_with(placement, members, &mut list, &mut strikes, &mut units)
+}
+
+// The margin of group g of a checked placement.
+pub(crate) fn group_margin(placement: &[u8], links: &[u16], g: usize) -> u64
+    requires { ⌜ Checked (now placement) ⌝ }
+    requires { ⌜ Linked (now placement) (now links) 0 ⌝ }
+    ensures { λ r. ⌜ (r ≡ marginOf (groupIn (now (placement .entry)) g)) × (r ≤ mostMills) ⌝ }
+{
+    let mut members = [0u16; MOST_LEGS];
+    let count = find_members(placement, links, g, &mut members);
+    margin_of(placement, &members[..count])
+}
