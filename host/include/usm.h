@@ -51,7 +51,8 @@
  *    7  underlyings differ                                        2, group
  *    8  styles differ                                             2, group
  *    9  markets differ                                            2, group
- *   10  a series is both long and short                           2, group
+ *   10  a series (type, strike, expiry and unit size) is both
+ *       long and short                                            2, group
  *   11  long and short call units are unequal                     2, group
  *   12  long and short put units are unequal                      2, group
  *   13  a short outlives a long                                   2, group

@@ -30,7 +30,7 @@ pub enum Reason {
     StylesDiffer = 8,
     /// 9: a group mixes listed and OTC options.
     MarketsDiffer = 9,
-    /// 10: a series is both long and short in a group.
+    /// 10: a series, its unit size included, is both long and short in a group.
     SeriesLongAndShort = 10,
     /// 11: long and short call units of a group are unequal.
     CallUnitsUnequal = 11,

@@ -5,9 +5,9 @@ use Prim.Native.Nat.{ℕ}
 use Rattle.records.specs.Lists.{only, same, sumOf}
 use Rattle.records.specs.declared.legs.Leg.{Leg}
 
--- 'A series is type, strike and expiry'
+-- 'A series is type, strike and expiry', and from request [3] on unit size too
 abbrev pub seriesOf : Leg → List ℕ
-seriesOf l = l .right ∷ l .strike ∷ l .expiry ∷ []
+seriesOf l = l .right ∷ l .strike ∷ l .expiry ∷ l .size ∷ []
 
 -- 'A line is all of type, style, market, unit size, underlying, strike, expiry.'
 abbrev pub lineOf : Leg → List ℕ

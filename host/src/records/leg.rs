@@ -68,8 +68,8 @@ pub struct Leg {
     pub contracts: u32,
 }
 
-/// Type, strike and expiry.
-pub type Series = (OptionType, u32, u32);
+/// Type, strike, expiry and unit size.
+pub type Series = (OptionType, u32, u32, u16);
 
 /// Everything that makes two positions the same instrument.
 #[derive(Clone, Copy, Debug, PartialEq, Eq, Hash)]
@@ -93,7 +93,7 @@ pub struct Line {
 impl Leg {
     /// The series it is of.
     pub fn series(&self) -> Series {
-        (self.option_type, self.strike, self.expiry)
+        (self.option_type, self.strike, self.expiry, self.unit_size)
     }
 
     /// The line it is of.

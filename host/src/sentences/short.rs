@@ -41,7 +41,9 @@ fn of_group(group: u64, reason: Reason) -> String {
         Reason::UnderlyingsDiffer => "mixes underlyings",
         Reason::StylesDiffer => "mixes American and European options",
         Reason::MarketsDiffer => "mixes listed and OTC options",
-        Reason::SeriesLongAndShort => "is both long and short in one series",
+        Reason::SeriesLongAndShort => {
+            "is both long and short in one series (type, strike, expiry and unit size)"
+        }
         Reason::CallUnitsUnequal => "has unequal long and short call units",
         Reason::PutUnitsUnequal => "has unequal long and short put units",
         Reason::ShortOutlivesLong => "has a short that expires after a long",

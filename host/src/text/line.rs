@@ -26,9 +26,10 @@ pub fn place_text(group: u16) -> String {
     }
 }
 
-/// Type, strike and expiry.
+/// Type, strike, expiry and unit size.
 pub fn series_text(leg: &Leg) -> String {
-    format!("{} {} {}", name_of(leg.option_type, TYPES), strike_text(leg.strike), date_text(leg.expiry))
+    let (strike, expiry) = (strike_text(leg.strike), date_text(leg.expiry));
+    format!("{} {strike} {expiry} unit {}", name_of(leg.option_type, TYPES), leg.unit_size)
 }
 
 /// A strike of so many mills, in dollars.
@@ -87,7 +88,7 @@ mod tests {
         assert_eq!(placed_text(&leg), format!("group 1 {}", leg_text(&leg)));
         assert_eq!(placed_text(&in_group(0, leg)), format!("unplaced {}", leg_text(&leg)));
         assert_eq!(raw_text(&leg.to_bytes()), placed_text(&leg));
-        assert_eq!(series_text(&leg), "put 50.000 2011-05-21");
+        assert_eq!(series_text(&leg), "put 50.000 2011-05-21 unit 100");
     }
 
     #[test]

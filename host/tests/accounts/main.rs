@@ -8,6 +8,7 @@ mod boxes;
 mod files;
 mod limits;
 mod look_right;
+mod minis;
 
 use usm::block::LONGEST_FILE;
 use usm::both::{Calls, BOTH};

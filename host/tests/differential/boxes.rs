@@ -99,7 +99,7 @@ fn pieces(random: &mut Random, kind: Leg, units: u32) -> Vec<Leg> {
 fn spoil(random: &mut Random, legs: &mut Vec<Leg>, [low, high]: [u32; 2]) {
     let at = random.below(legs.len());
     let leg = legs[at];
-    match random.below(11) {
+    match random.below(12) {
         0 => legs.iter_mut().for_each(|leg| leg.style = Style::American),
         1 => legs[at].style = Style::American,
         2 => legs.iter_mut().for_each(|leg| leg.side = other(leg.side)),
@@ -110,6 +110,7 @@ fn spoil(random: &mut Random, legs: &mut Vec<Leg>, [low, high]: [u32; 2]) {
         7 => legs.retain(|leg| leg.option_type == OptionType::Call),
         8 => legs.extend([low + 1, high - 1].map(|strike| Leg { strike, side: Side::Long, ..leg })),
         9 => vertical(random, legs, [low, high]),
+        10 => minis(random, legs, leg),
         _ => legs[at].strike = random.pick(&[low, high, high + 1, low - 1]).clamp(1, GREATEST_STRIKE),
     }
 }
@@ -130,6 +131,19 @@ fn later_longs(random: &mut Random, legs: &mut [Leg]) {
             leg.expiry = expiry;
         }
     }
+}
+
+/// A long and a short at one strike of the box, with as many units in contracts of two sizes.
+fn minis(random: &mut Random, legs: &mut Vec<Leg>, leg: Leg) {
+    let contracts = random.between(1, MOST_CONTRACTS / 10);
+    let size = random.pick(&[10, 10, 100, 1_000]);
+    legs.push(Leg { side: Side::Long, unit_size: 10, contracts: contracts * 10, ..leg });
+    legs.push(Leg {
+        side: Side::Short,
+        unit_size: size,
+        contracts: contracts * 100 / u32::from(size),
+        ..leg
+    });
 }
 
 /// One leg too many on each side: more calls or puts at the same strikes, or at a third one.

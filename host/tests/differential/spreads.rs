@@ -89,9 +89,11 @@ fn expiry_from(random: &mut Random, first: u32) -> u32 {
     first
 }
 
-/// Units balance while contracts do not (P7).
+/// Units balance while contracts do not (P7). At times both stand at one strike, and unit sizes alone part
+/// the two series.
 fn ten_small_for_one_large(random: &mut Random, base: Leg, low: u32, high: u32) -> Vec<Leg> {
     let contracts = random.between(1, MOST_CONTRACTS / 10);
+    let high = if random.one_in(2) { low } else { high };
     vec![
         Leg { side: Side::Long, unit_size: 10, contracts: contracts * 10, strike: high, ..base },
         Leg { side: Side::Short, unit_size: 100, contracts, strike: low, ..base },

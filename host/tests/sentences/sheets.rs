@@ -34,6 +34,10 @@ pub fn groups() -> Vec<Case> {
         no_spread("styles", &[leg("L60c"), unplaced, Leg { style: Style::European, ..leg("S50c") }]),
         no_spread("markets", &[leg("L60c"), Leg { market: Market::Otc, ..leg("S50c") }]),
         no_spread("long and short one series", &[leg("L60c"), leg("S50c"), leg("S60c"), leg("L50p")]),
+        no_spread(
+            "long and short one series of minis",
+            &[Leg { unit_size: 10, ..leg("L60c") }, leg("S60c"), Leg { unit_size: 10, ..leg("S60c") }],
+        ),
         no_spread("call units", &[times(12_345, "L60c"), leg("S50c"), leg("S50p")]),
         no_spread("put units", &[Leg { unit_size: 10, ..leg("L60p") }, leg("S50p")]),
         no_spread(

@@ -50,8 +50,8 @@ pub fn uneven_at(record: usize) -> Sheet {
     sheet
 }
 
-/// One group of one strike, whose legs differ in unit size alone, the shorts expiring first. Every
-/// pair of legs has to be looked at for a doubled series, and all lines share a bucket.
+/// One group of one strike, whose legs differ in unit size, the shorts expiring first. Every pair of legs has
+/// to be looked at for a doubled series, and all lines share a bucket.
 pub fn one_strike() -> Sheet {
     one_group(|index| {
         let short = Leg { side: Side::Short, unit_size: index as u16 + 1, ..leg("L50c") };

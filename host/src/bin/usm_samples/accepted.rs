@@ -43,6 +43,12 @@ pub fn spreads() -> Vec<Sample> {
             "Ten contracts of unit 10 against one of unit 100: the units are equal.",
             placed(&[Leg { unit_size: 10, contracts: 10, ..leg("L60c") }, leg("S50c")], &[1_000_000]),
         ),
+        sample(
+            "mini-against-standard",
+            "Ten reduced contracts long against one standard contract short, same strike and expiry: \
+             their unit sizes make them two series.",
+            placed(&[Leg { unit_size: 10, contracts: 10, ..leg("L50c") }, leg("S50c")], &[0]),
+        ),
     ]
 }
 

@@ -35,7 +35,7 @@ pub fn no_spreads() -> Vec<Sample> {
         ),
         sample(
             "long-and-short-one-series",
-            "Long and short the same series in one group.",
+            "Long and short the same series, its unit size included, in one group.",
             placed(&[leg("L50c"), leg("S50c")], &[0]),
         ),
     ]

@@ -82,7 +82,7 @@ pub fn doubled_series(random: &mut Random, tables: &mut Tables) {
         return;
     }
     let (one, two) = (random.below(count), random.below(count));
-    for field in [TYPE, STRIKE, EXPIRY] {
+    for field in [TYPE, STRIKE, EXPIRY, UNIT_SIZE] {
         if random.one_in(8) {
             continue; // nearly the same series
         }
