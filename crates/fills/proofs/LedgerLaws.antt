@@ -20,7 +20,8 @@ use Rattle.records.proofs.TableLaws.{ranges}
 use Rattle.fills.specs.Fills.{actionOf, isOpen, plainOf, fillLeg, goodFill}
 use Rattle.fills.specs.Rows.{heldOf, opened, closed, mergedInto, merged}
 use Rattle.fills.specs.Played.{openNumber, closeNumber, fillNumber, numberOver, rowsAfter, playedOver, refusedOver}
-use Rattle.fills.specs.Ledger.{Ledger, emptyLedger, counts, posted, bought, sold, startedFrom, numberIn, ledgerAfter, ledgerOver, refusedBy, StandFor, Filled, LedgerStands, LedgerRefuses, LedgerStarts}
+use Rattle.fills.specs.Ledger.{Ledger, emptyLedger, counts, posted, bought, sold, startedFrom, numberIn, ledgerAfter, ledgerOver, refusedBy, StandFor, Filled}
+use Rattle.fills.specs.Demands.{LedgerStands, LedgerRefuses, LedgerStarts}
 use Rattle.fills.proofs.FillLaws.{good-range}
 use Rattle.fills.proofs.MergeLaws.{held-opened, held-merged}
 use Rattle.fills.proofs.RowLaws.{held-like, held-closed, apart-opened, apart-closed, some-opened, some-closed, length-opened-is, length-closed-is, rows-some}
@@ -151,7 +152,7 @@ unfolding mergedInto startedFrom
 into-stands rows g [] a s = s
 into-stands rows g (x ∷ xs) a s = into-stands (opened x rows) (bought x g) xs (a .1) (opened-stands x rows g s (a .0))
 
-start-stands : (legs : List Leg) → Filled legs → StandFor (merged legs) (startedFrom emptyLedger legs)
+pub start-stands : (legs : List Leg) → Filled legs → StandFor (merged legs) (startedFrom emptyLedger legs)
 unfolding heldOf
 start-stands legs a = into-stands [] emptyLedger legs a (record { held = λ x. refl; lines = refl; apart = tt; some = tt })
 

@@ -1,12 +1,12 @@
 -- The result of a call that is not refused is a table of holdings, in which each line and side stands once.
-use Prim.Native.Nat.{ℕ, suc, _+_, _-_, _/_, _%_, _≤_, _<_}
+use Prim.Native.Nat.{ℕ, suc, _+_, _-_, _*_, _/_, _%_, _≤_, _<_}
 use mathlib.Core.Path.{_≡_, refl, sym, ap, _∙_}
 use mathlib.Core.Bool.{Bool, true, false, cond, _&&_}
 use mathlib.Core.List.{List, [], _∷_, _++_, append-nil}
 use native.Mathlib.Decide.{decLe}
 use native.Mathlib.Omega.{arith}
 use lib.Dec.{eqb, leb}
-use lib.ListN.{length, length-append}
+use lib.ListN.{length, take, length-append}
 use borrow.Author.Tests.{leb-true, le-leb, eq-eqb, eqb-true}
 use Rattle.records.specs.Chunks.{chunks, recordsOf}
 use Rattle.records.specs.Legs.{legBytes, legOf, inRange}
@@ -14,6 +14,7 @@ use Rattle.records.specs.Lines.{sameLineSide, contractsOf}
 use Rattle.records.specs.Lists.{All}
 use Rattle.records.specs.Order.{Check, firstOf}
 use Rattle.records.specs.Tables.{goodRecord, tableChecks, fieldChecks, legsOf, countedOf, wholeTable}
+use Rattle.records.specs.Written.{putAt}
 use Rattle.records.specs.declared.legs.Leg.{Leg}
 use Rattle.records.specs.declared.refusals.Fault.{Fault}
 use Rattle.records.specs.declared.refusals.Fault.the-variants.{Nothing, Is}
@@ -22,18 +23,21 @@ use Rattle.records.specs.declared.tables.Counted.the-variants.{Records}
 use Rattle.records.proofs.LegLaws.{length-leg-bytes, leg-good}
 use Rattle.records.proofs.LineLaws.{line-sym}
 use Rattle.records.proofs.ListLaws.{map-all}
-use Rattle.records.proofs.PassLaws.{Pass, clear, unclear, pass-left, pass-right, each-pass}
+use Rattle.records.proofs.PassLaws.{Pass, clear, unclear, pass-left, pass-right, pass-both, each-pass}
+use Rattle.records.proofs.PutLaws.{put-front, put-past}
 use Rattle.records.proofs.TableLaws.{ranges, fields-good, length-legs}
 use Rattle.records.proofs.ChunkLaws.{records-append}
 use Rattle.fills.specs.Fills.{isOpen, fillLeg}
 use Rattle.fills.specs.Rows.{heldOf, more, fewer, opened, closed, mergedInto, merged, bytesOf}
-use Rattle.fills.specs.Played.{openNumber, numberOver, rowsAfter, playedOver}
-use Rattle.fills.specs.Calls.{tableChecks as playTableChecks, askPast, roomChecks, playChecks, rowsPlayed, refusedIn, answered, playOf}
+use Rattle.fills.specs.Played.{openNumber, numberOver, rowsAfter, playedOver, refusedOver}
+use Rattle.fills.specs.Calls.{tableChecks as playTableChecks, askPast, roomChecks, playChecks, rowsPlayed, refusedIn, answered, playOf, left, indicesOf, numbersOf}
 use Rattle.fills.specs.Ledger.{Apart, Filled}
-use Rattle.fills.specs.Result.{ResultSound, ResultStays}
-use Rattle.fills.specs.declared.calls.Played.the-variants.{Done}
+use Rattle.fills.specs.Demands.{CallStands, ResultSound, ResultStays, Leaves, LeftBy, PlayLeaves}
+use Rattle.fills.specs.declared.calls.Played.{Played}
+use Rattle.fills.specs.declared.calls.Played.the-variants.{Done, Refused}
+use Rattle.fills.proofs.BalanceLaws.{contracts-apart}
 use Rattle.fills.proofs.FillLaws.{good-range}
-use Rattle.fills.proofs.LedgerLaws.{fill-range, fill-open, fill-close, ledger-stands}
+use Rattle.fills.proofs.LedgerLaws.{fill-range, fill-open, fill-close, ledger-stands, ledger-refuses}
 use Rattle.fills.proofs.MergeLaws.{held-merged, merged-snoc, length-opened}
 use Rattle.fills.proofs.PlayLaws.{Tabled, tables-clear}
 use Rattle.fills.proofs.RowLaws.{all-opened, all-closed, left-some, length-opened-is}
@@ -196,6 +200,14 @@ module _ (h f : List ℕ) (p : Passed h f) where
   unfolding rowsPlayed
   rows-apart = ledger-stands (legsOf h) (recordsOf f) (filled (legsOf h) (legs-good h (p .tabled .fields))) .apart
 
+listed : (h f : List ℕ) (result indices numbers n k : ℕ) → playOf h f result indices numbers ≡ Done n k → k ≡ length (refusedIn h f)
+unfolding playOf
+listed h f result indices numbers n k e = go (firstOf (playChecks h f result indices numbers)) e
+  where
+    go : (v : Fault) → answered v (length (rowsPlayed h f)) (length (refusedIn h f)) ≡ Done n k → k ≡ length (refusedIn h f)
+    go Nothing r = cc
+    go (Is x) r = let z : _≡_ {A = ℕ} 0 1 = cc in absurd (omega arith)
+
 -- ---- its table
 
 records-good : (rows : List Leg) → All (λ l. inRange 0 l ≡ true) rows → All (λ r. goodRecord Holdings r ≡ true) (recordsOf (bytesOf rows))
@@ -205,14 +217,17 @@ records-good (x ∷ xs) a =
     rw (records-append 1 (legBytes x) (bytesOf xs) (length-leg-bytes x), one-record x)
     (leg-good 0 x (omega arith) (a .0), records-good xs (a .1))
 
+whole-bytes : (rows : List Leg) → Fine rows → wholeTable Holdings (length (bytesOf rows)) ≡ true
+whole-bytes rows f =
+    let l = length-bytes rows in
+    rw (eq-eqb (length (bytesOf rows) % 32) 0 (omega arith), le-leb (length (bytesOf rows) / 32) 256 (omega (arith, f .few)))
+
 table-sound : (rows : List Leg) → Fine rows → countedOf Holdings (bytesOf rows) ≡ Records (length rows)
 unfolding countedOf tableChecks fieldChecks
 table-sound rows f =
     let l = length-bytes rows in
-    let w : wholeTable Holdings (length (bytesOf rows)) ≡ true =
-    rw (eq-eqb (length (bytesOf rows) % 32) 0 (omega arith), le-leb (length (bytesOf rows) / 32) 256 (omega (arith, f .few))) in
     let q : length (bytesOf rows) / 32 ≡ length rows = omega arith in
-    let p : Pass (tableChecks Holdings (bytesOf rows)) = (w, each-pass (goodRecord Holdings) 4 1 0 (recordsOf (bytesOf rows)) (records-good rows (f .good))) in
+    let p : Pass (tableChecks Holdings (bytesOf rows)) = (whole-bytes rows f, each-pass (goodRecord Holdings) 4 1 0 (recordsOf (bytesOf rows)) (records-good rows (f .good))) in
     rw (unclear (tableChecks Holdings (bytesOf rows)) p, q)
 
 pub result-sound : ResultSound
@@ -247,7 +262,76 @@ again : (rows : List Leg) → Fine rows → Apart rows → rowsPlayed (bytesOf r
 unfolding rowsPlayed playedOver chunks
 again rows f a = rw (legs-back rows (f .good)) (merged-apart [] rows a)
 
+-- no fill is played, and none refused
+none-refused : (h : List ℕ) → refusedIn h [] ≡ []
+unfolding refusedIn refusedOver chunks
+none-refused h = refl
+
+past-apart : (before rest : List Leg) (i : ℕ) → Apart (before ++ rest) → All (λ l. inRange 0 l ≡ true) rest → Pass (askPast before i rest)
+unfolding askPast
+past-apart before [] i a g = tt
+past-apart before (x ∷ xs) i a g = (
+  le-leb (contractsOf x before + x .contracts .0) 100000
+      (omega (arith, contracts-apart x before (apart-front before xs x a), ranges 0 x (g .0) .contracts .1)),
+  past-apart (before ++ x ∷ []) xs (i + 1) (rw (append-one before x xs) a) (g .1),
+)
+
+-- a table of rows apart, played over by no fills, is refused nothing
+again-clear : (rows : List Leg) (room i j : ℕ) → Fine rows → Apart rows → 8192 ≤ room → firstOf (playChecks (bytesOf rows) [] room i j) ≡ Nothing
+unfolding playChecks playTableChecks fieldChecks roomChecks
+again-clear rows room i j f a h =
+    let w = whole-bytes rows f in
+    let fields : Pass (playTableChecks (bytesOf rows) []) =
+    (rw w, each-pass (goodRecord Holdings) 4 1 0 (recordsOf (bytesOf rows)) (records-good rows (f .good))) in
+    let lots : Pass (askPast [] 0 (legsOf (bytesOf rows))) = rw (legs-back rows (f .good)) (past-apart [] rows 0 a (f .good)) in
+    let room-there : Pass (roomChecks 0 room i j) = (le-leb 8192 room h, (rw (le-leb 0 i (omega arith), le-leb 0 j (omega arith)), tt)) in
+    unclear (playChecks (bytesOf rows) [] room i j)
+    (pass-both (playTableChecks (bytesOf rows) []) (askPast [] 0 (legsOf (bytesOf rows)) ++ roomChecks 0 room i j) fields
+    (pass-both (askPast [] 0 (legsOf (bytesOf rows))) (roomChecks 0 room i j) lots room-there))
+
+again-done : (rows : List Leg) (room i j : ℕ) → Fine rows → Apart rows → 8192 ≤ room → playOf (bytesOf rows) [] room i j ≡ Done (length rows) 0
+unfolding playOf
+again-done rows room i j f a h = rw (again-clear rows room i j f a h, again rows f a, none-refused (bytesOf rows))
+
+-- the records that a call leaves at the front of its result
+left-records : (rows : List Leg) (result : List ℕ) (n k : ℕ) → n ≡ length rows → take (32 * n) (left (Done n k) (bytesOf rows) result) ≡ bytesOf rows
+unfolding left
+left-records rows result n k e =
+    let m : 32 * n ≡ length (bytesOf rows) = omega (arith, length-bytes rows) in
+    rw m (put-front result (bytesOf rows))
+
 pub result-stays : ResultStays
-result-stays h f result indices numbers n k e =
+result-stays h f result indices numbers n k e room i j r =
+    let q = passed h f (length result) indices numbers n k e in
+    let rows = rowsPlayed h f in
+    let fine = rows-fine h f (q .0) in
+    let apart = rows-apart h f (q .0) in
+    rw (left-records rows result n k (q .1)) (again-done rows room i j fine apart r ∙ ap (λ (m : ℕ). Done m 0) (sym (q .1)), ap bytesOf (again rows fine apart))
+
+-- ---- rows and ledger of a call
+
+pub call-stands : CallStands
+unfolding rowsPlayed refusedIn
+call-stands h f result indices numbers n k e =
     let p = passed h f result indices numbers n k e .0 in
-    again (rowsPlayed h f) (rows-fine h f p) (rows-apart h f p)
+    let some = filled (legsOf h) (legs-good h (p .tabled .fields)) in
+    (ledger-stands (legsOf h) (recordsOf f) some, ledger-refuses (legsOf h) (recordsOf f) some)
+
+-- ---- what is left in the lent slices
+
+leaves : (entries d : List ℕ) → Leaves entries d (putAt d 0 entries)
+leaves entries d = (put-front d entries, put-past d entries)
+
+pub play-leaves : PlayLeaves
+unfolding left
+play-leaves h f d i m = go (playOf h f (length d) (length i) (length m)) refl
+  where
+    go : (r : Played) → playOf h f (length d) (length i) (length m) ≡ r → LeftBy r h f d i m
+    go (Done n k) e = (
+      length-bytes (rowsPlayed h f) ∙ ap (λ (t : ℕ). 32 * t) (sym (passed h f (length d) (length i) (length m) n k e .1)),
+      sym (listed h f (length d) (length i) (length m) n k e),
+      leaves (bytesOf (rowsPlayed h f)) d,
+      leaves (indicesOf (refusedIn h f)) i,
+      leaves (numbersOf (refusedIn h f)) m,
+    )
+    go (Refused r) e = (refl, refl, refl)
