@@ -9,7 +9,7 @@ use lib.ListN.{length, getD, set, drop, length-take, length-drop}
 use lib.Dec.{eqb}
 use lib.Seq.{getD-drop, getD-take, take-all}
 use borrow.Author.Tests.{eqb-true, lt-leb}
-use Rattle.records.specs.Bytes.{leAt, zeroIn}
+use Rattle.records.specs.Bytes.{leAt}
 use Rattle.records.specs.Chunks.{chunkAt}
 use Rattle.records.specs.Legs.{legOf, inRange, goodLeg}
 use Rattle.records.specs.Tables.{goodRecord}
@@ -17,21 +17,21 @@ use Rattle.records.specs.Within.{within}
 use Rattle.records.specs.Written.{putAt}
 use Rattle.records.specs.declared.legs.Leg.{Leg}
 use Rattle.records.specs.declared.tables.Kind.the-variants.{Holdings}
-use Rattle.fills.specs.Fills.{actionOf, plainOf, fillLeg, goodFill}
+use Rattle.fills.specs.Fills.{actionAt, actionOf, plainOf, fillLeg, goodFill}
 use Rattle.fills.specs.Rows.{heldOf, opened, closed}
 use Rattle.fills.specs.Played.{openNumber, closeNumber, fillNumber, numberOver, rowsAfter}
 use Rattle.fills.proofs.PartLaws.{put-whole, put-one}
 
-pub action-is : (xs : List ℕ) (i : ℕ) → getD xs (32 * i + 24) 0 ≡ actionOf (chunkAt 32 xs i)
+pub action-is : (xs : List ℕ) (i : ℕ) → getD xs (32 * i + actionAt) 0 ≡ actionOf (chunkAt 32 xs i)
 unfolding leAt
-action-is xs i = rw (getD-take 32 (drop (32 * i) xs) 24 0 (omega arith), getD-drop (32 * i) xs 24 0) (omega arith)
+action-is xs i = rw (getD-take 32 (drop (32 * i) xs) actionAt 0 (omega arith), getD-drop (32 * i) xs actionAt 0) (omega arith)
 
 -- a part copied over as many bytes, with the action's byte set to 0
-pub plain-is : (d part out : List ℕ) → length d ≡ length part → 24 < length part → out ≡ putAt d 0 part → set out 24 0 ≡ plainOf part
+pub plain-is : (d part out : List ℕ) → length d ≡ length part → actionAt < length part → out ≡ putAt d 0 part → set out actionAt 0 ≡ plainOf part
 unfolding plainOf
 plain-is d part out e h o =
     let w : putAt d 0 part ≡ part = put-whole d part (omega arith) in
-    rw (o, w) (put-one part 24 0 h)
+    rw (o, w) (put-one part actionAt 0 h)
 
 -- a record has 32 bytes
 pub record-size : (xs : List ℕ) (i : ℕ) → i < length xs / 32 → length (chunkAt 32 xs i) ≡ 32
@@ -42,12 +42,12 @@ record-size xs i h = simp (length-take, length-drop) (omega arith)
 pub good-range : (xs : List ℕ) → goodRecord Holdings xs ≡ true → inRange 0 (legOf xs) ≡ true
 unfolding goodLeg
 good-range xs e =
-    let p = and-eq-true-iff (eqb (length xs) 32) (inRange 0 (legOf xs) && zeroIn xs 24 31) .0 e in
-    and-eq-true-iff (inRange 0 (legOf xs)) (zeroIn xs 24 31) .0 (p .1) .0
+    let p = and-eq-true-iff (eqb (length xs) 32) _ .0 e in
+    and-eq-true-iff (inRange 0 (legOf xs)) _ .0 (p .1) .0
 
 pub good-size : (xs : List ℕ) → goodRecord Holdings xs ≡ true → length xs ≡ 32
 unfolding goodLeg
-good-size xs e = eqb-true (length xs) 32 (and-eq-true-iff (eqb (length xs) 32) (inRange 0 (legOf xs) && zeroIn xs 24 31) .0 e .0)
+good-size xs e = eqb-true (length xs) 32 (and-eq-true-iff (eqb (length xs) 32) _ .0 e .0)
 
 -- a record of its own as the first of a table
 pub first-record : (xs : List ℕ) → length xs ≡ 32 → chunkAt 32 xs 0 ≡ xs
