@@ -88,6 +88,26 @@ static void try_groups(void)
     compare("usm_worksheet", answer);
 }
 
+/* Fills over holdings, either of which may be none, and every choice of lists for the one fill. */
+static void try_fills(void)
+{
+    uint64_t answer[USM_ANSWER_NUMBERS];
+    uint8_t fill[USM_RECORD_BYTES], result[USM_LEGS_BYTES], numbers[1];
+    uint32_t indices[1];
+    memcpy(fill, holdings, sizeof fill);
+    fill[USM_FILL_ACTION] = USM_CLOSE;
+    for (int there = 0; there < 16; there++) {
+        int held = there & 1, filled = there & 2, listed = there & 4, numbered = there & 8;
+        usm_play_fills(held ? holdings : none(), held ? sizeof holdings : 0,
+                       filled ? fill : none(), filled ? sizeof fill : 0, result, sizeof result,
+                       listed ? indices : no_strikes(), listed ? 1 : 0,
+                       numbered ? numbers : none(), numbered ? 1 : 0, answer);
+        compare("usm_play_fills", answer);
+    }
+    usm_play_fills(none(), 0, none(), 0, none(), 0, no_strikes(), 0, none(), 0, answer);
+    compare("usm_play_fills", answer);
+}
+
 /* The length and the address of a table that is there or is not. */
 #define TABLE(there, table) (there) ? (table) : none(), (there) ? sizeof (table) : 0
 
@@ -121,6 +141,7 @@ static void try_all(void)
         compare("usm_check_table", answer);
     }
     try_groups();
+    try_fills();
     for (int there = 0; there < 8; there++)
         try_tables(there);
     usm_check_file(none(), 0, answer);

@@ -1,7 +1,7 @@
 /*
  * A member house's first sheet, from C: the iron condor of document 01's bench (P4) placed
- * as two groups, checked, written as a file, read back, and refused when a claim is a mill
- * short. Each call of usm.h is made at least once.
+ * as two groups, checked, written as a file, read back, played on by a day's fills, and
+ * refused when a claim is a mill short. Each call of usm.h is made at least once.
  *
  *   cc -I ../include example.c ../../target/staticlib/libusm_c.a -o example
  */
@@ -177,6 +177,28 @@ static int write_and_read_back(const struct sheet *sheet)
     return same;
 }
 
+/* A day's fills over the holdings: the short put is closed, a long call opened, and one fill refused. */
+static int play_a_day(const struct sheet *sheet)
+{
+    uint8_t fills[3 * USM_RECORD_BYTES], result[USM_LEGS_BYTES], numbers[3];
+    uint32_t indices[3];
+    uint64_t answer[USM_ANSWER_NUMBERS];
+    leg(fills, 0, USM_SHORT, USM_PUT, 60000);
+    fills[USM_FILL_ACTION] = USM_CLOSE;
+    leg(fills + USM_RECORD_BYTES, 0, USM_LONG, USM_PUT, 60000);
+    fills[USM_RECORD_BYTES + USM_FILL_ACTION] = USM_CLOSE;
+    leg(fills + 2 * USM_RECORD_BYTES, 0, USM_LONG, USM_CALL, 80000);
+    fills[2 * USM_RECORD_BYTES + USM_FILL_ACTION] = USM_OPEN;
+    usm_play_fills(sheet->holdings, sizeof sheet->holdings, fills, sizeof fills, result, sizeof result,
+                   indices, 3, numbers, 3, answer);
+    if (refused("usm_play_fills", answer))
+        return 0;
+    printf("after the day %" PRIu64 " records, %" PRIu64 " fills refused\n", answer[1], answer[2]);
+    for (uint64_t i = 0; i < answer[2]; i++)
+        printf("fill %" PRIu32 ": refusal %u\n", indices[i], (unsigned)numbers[i]);
+    return 1;
+}
+
 /* An empty table is NULL and 0. */
 static int write_nothing(void)
 {
@@ -193,7 +215,7 @@ int main(void)
     if (!print_records(USM_HOLDINGS, sheet.holdings, sizeof sheet.holdings) ||
         !print_records(USM_PLACEMENT, sheet.placement, sizeof sheet.placement) ||
         !claim_margins(&sheet) || !print_margin(&sheet, 2) || !print_worksheet(&sheet, 1) ||
-        !check(&sheet) || !write_and_read_back(&sheet))
+        !check(&sheet) || !write_and_read_back(&sheet) || !play_a_day(&sheet))
         return 1;
 
     /* There is no group 3 (6), a claim one mill short is 16, and three empty tables make no file. */

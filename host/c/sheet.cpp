@@ -56,6 +56,26 @@ static void print(const char *what, const Answer &answer)
     std::printf("\n");
 }
 
+// A fill of one contract.
+static void add_fill(Bytes &table, unsigned action, unsigned side, std::uint32_t strike)
+{
+    add_leg(table, 0, side, strike);
+    put(table, USM_FILL_ACTION, 1, action);
+}
+
+// The day's fills over holdings; prints the answer and what was refused.
+static void play(const char *what, const Bytes &holdings, const Bytes &fills)
+{
+    Bytes result(USM_LEGS_BYTES), numbers(fills.size() / USM_RECORD_BYTES);
+    std::vector<std::uint32_t> indices(numbers.size());
+    Answer answer;
+    usm_play_fills(holdings.data(), holdings.size(), fills.data(), fills.size(), result.data(), result.size(),
+                   indices.data(), indices.size(), numbers.data(), numbers.size(), answer.data());
+    print(what, answer);
+    for (std::size_t i = 0; i < answer[2]; i++)
+        std::printf("  fill %" PRIu32 ": %u\n", indices[i], static_cast<unsigned>(numbers[i]));
+}
+
 // Group 1 is worth a margin of 1,000 dollars; each thread claims another amount.
 static bool answers_stay_apart(const Bytes &holdings, const Bytes &placement)
 {
@@ -97,5 +117,12 @@ int main()
     std::vector<std::int64_t> no_room;
     usm_margins(placement.data(), placement.size(), 1, no_room.data(), no_room.size(), answer.data());
     print("no room", answer);
+    Bytes fills;
+    add_fill(fills, USM_CLOSE, USM_LONG, 60000);
+    add_fill(fills, USM_CLOSE, USM_LONG, 60000);
+    add_fill(fills, USM_OPEN, USM_SHORT, 60000);
+    play("a day", holdings, fills);
+    play("no fills", holdings, empty);
+    play("no holdings", empty, fills);
     std::printf("threads %s\n", answers_stay_apart(holdings, placement) ? "stay apart" : "MIX");
 }

@@ -19,6 +19,8 @@ static size_t file_len;
 static uint8_t holdings[USM_LEGS_BYTES], placement[USM_LEGS_BYTES], claims[USM_CLAIMS_BYTES];
 static uint32_t strikes[USM_MOST_LEGS];
 static int64_t nets[USM_MOST_LEGS];
+static uint8_t fills[USM_MOST_FILLS * USM_RECORD_BYTES], result[USM_LEGS_BYTES], numbers[USM_MOST_FILLS];
+static uint32_t indices[USM_MOST_FILLS];
 static uint8_t line[USM_LINE_BYTES];
 static uint8_t text[USM_TABLE_BYTES];
 static uint64_t answer[USM_ANSWER_NUMBERS];
@@ -45,6 +47,12 @@ static void make_tables(void)
         put(record, USM_LEG_CONTRACTS, 4, 1);
         memcpy(holdings + i * USM_RECORD_BYTES, record, USM_RECORD_BYTES);
         put(record, USM_LEG_GROUP, 2, i / 8 + 1);
+    }
+    for (unsigned i = 0; i < USM_MOST_FILLS; i++) {
+        uint8_t *record = fills + i * USM_RECORD_BYTES;
+        memcpy(record, holdings + i % USM_MOST_LEGS * USM_RECORD_BYTES, USM_RECORD_BYTES);
+        put(record, USM_LEG_STRIKE, 4, i % 509 + 1);
+        put(record, USM_FILL_ACTION, 1, i % 3 == 0 ? USM_CLOSE : USM_OPEN);
     }
     for (unsigned g = 1; g <= USM_MOST_CLAIMS; g++) {
         put(claims + (g - 1) * USM_RECORD_BYTES, USM_CLAIM_GROUP, 2, g);
@@ -73,6 +81,11 @@ static void write_file(void)
 {
     usm_write_file(holdings, sizeof holdings, placement, sizeof placement, claims, sizeof claims,
                    file, sizeof file, answer);
+}
+static void play_fills(void)
+{
+    usm_play_fills(holdings, sizeof holdings, fills, sizeof fills, result, sizeof result,
+                   indices, USM_MOST_FILLS, numbers, USM_MOST_FILLS, answer);
 }
 static void file_line(void) { usm_file_line(file, file_len, line); }
 static void file_table(void) { usm_file_table(file, file_len, text); }
@@ -106,7 +119,7 @@ static size_t used(void (*of)(void))
 int main(void)
 {
     static void (*const calls[])(void) = {
-        check_table, margin, margins, worksheet, check_sheet, check_file, read_file, write_file,
+        check_table, margin, margins, worksheet, check_sheet, check_file, read_file, write_file, play_fills,
     };
     make_tables();
     write_file();

@@ -8,6 +8,7 @@
  *   holdings   0 to 256 leg records of 32 bytes, group 0
  *   placement  0 to 256 leg records of 32 bytes, group 0 (not placed) or 1 to 32
  *   claims     0 to 32 claim records of 32 bytes
+ *   fills      0 to 1,024 leg records of 32 bytes, group 0, with an action
  *   file       1 to 39 blocks of 512 bytes
  *
  * All numbers in records and blocks are little-endian. Amounts are mills (1/1000 dollar).
@@ -23,8 +24,8 @@
  *               answered.
  *   answer      Exactly four numbers, always written in full:
  *                 success  { 0, ... }  the results, as told at each call
- *                 refusal  { number, table, place, 0 }, number 1 to 17
- *               table: 0 none, 1 holdings, 2 placement, 3 claims.
+ *                 refusal  { number, table, place, 0 }, number 1 to 19
+ *               table: 0 none, 1 holdings, 2 placement, 3 claims, 4 fills.
  *   Buffers     On a refusal nothing lent is written but `answer`, and the `line` and `text` of
  *               the two calls that print. On success what lies past the output stays as it was.
  *   Threads     No call keeps any state: the library has no variables, takes no memory and
@@ -61,6 +62,9 @@
  *   15  a short is not placed                                     2, record
  *   16  a claim is not its group's margin                         3, group
  *   17  no room in a lent buffer                                  see each call
+ *   18  a fill closes more contracts than are held                listed only
+ *   19  more than 100,000 contracts of a line and side, or a      1, record;
+ *       fill of a 257th line and side                             or listed
  */
 
 #ifndef USM_H
@@ -82,6 +86,7 @@ enum {
     USM_MOST_BLOCKS = 39,
     USM_MOST_LEGS = 256,
     USM_MOST_CLAIMS = 32,
+    USM_MOST_FILLS = 1024,
     USM_LEGS_BYTES = 8192,     /* the longest holdings or placement table */
     USM_CLAIMS_BYTES = 1024,   /* the longest claims table */
     USM_LONGEST_FILE = 19968,
@@ -90,8 +95,8 @@ enum {
     USM_STACK_BYTES = 65536
 };
 
-/* The numbers of the tables, as `kind` in and as `table` out. */
-enum { USM_HOLDINGS = 1, USM_PLACEMENT = 2, USM_CLAIMS = 3 };
+/* The numbers of the tables, as `kind` in (1 to 3) and as `table` out. */
+enum { USM_HOLDINGS = 1, USM_PLACEMENT = 2, USM_CLAIMS = 3, USM_FILLS = 4 };
 
 /* The refusals, answer[0]; 0 is success. */
 enum {
@@ -111,7 +116,9 @@ enum {
     USM_CONTRACTS_DIFFER = 14,
     USM_SHORT_NOT_PLACED = 15,
     USM_CLAIM_NOT_MARGIN = 16,
-    USM_NO_ROOM = 17
+    USM_NO_ROOM = 17,
+    USM_MORE_CLOSED_THAN_HELD = 18,
+    USM_TOO_MUCH_HELD = 19
 };
 
 /* Where the fields of a leg record begin; each ends where the next begins, the filler with the record. */
@@ -129,10 +136,16 @@ enum {
     USM_LEG_FILLER = 24        /* 8 bytes: zero */
 };
 
+/* A fill is a leg record of the holdings in which one byte of the filler is the action. */
+enum {
+    USM_FILL_ACTION = 24       /* 1 byte: USM_OPEN, USM_CLOSE */
+};
+
 enum { USM_LONG = 1, USM_SHORT = 2 };
 enum { USM_CALL = 1, USM_PUT = 2 };
 enum { USM_AMERICAN = 1, USM_EUROPEAN = 2 };
 enum { USM_LISTED = 1, USM_OTC = 2 };
+enum { USM_OPEN = 1, USM_CLOSE = 2 };
 
 /* Where the fields of a claim record begin; all other bytes are zero. */
 enum {
@@ -239,6 +252,29 @@ void usm_write_file(const uint8_t *holdings, size_t holdings_len,
                     const uint8_t *placement, size_t placement_len,
                     const uint8_t *claims, size_t claims_len,
                     uint8_t *out, size_t out_len, uint64_t *answer);
+
+/*
+ * Plays the day's fills over yesterday's holdings, in order, as a ledger from line and side to contracts
+ * would: an open adds to the lot of the fill's side, a close takes from it. A line and side stands in one
+ * record: repeats in the starting table are first added into the first such record. A new one goes to the
+ * end; one at zero leaves, those behind move up, and its room is used again. The holdings that come out go
+ * to result from byte 0, with filler zero. A refused fill changes nothing and play goes on; the indices of
+ * those that are refused go to indices[0] and following, in order, and their numbers to numbers[0] and
+ * following: 4 for a field or an action out of range; 18 for a close of more than is held; 19 for the
+ * 257th line and side, or more than 100,000 contracts of one.
+ *   success  { 0, records of the result, refused fills, 0 }; what lies past the records and past the
+ *            refused fills stays
+ *   refusals 1 for either table; 4, table 1, at a record of the starting table; 19, table 1, at the
+ *            first record that takes a line and side past 100,000 contracts; 17, table 1, place
+ *            USM_LEGS_BYTES, if result is shorter than that; 17, table 4, place the number of fills, if
+ *            either list has fewer entries. All of them come before any fill is played.
+ * Result and lists may overlap neither the holdings nor the fills nor each other.
+ */
+void usm_play_fills(const uint8_t *holdings, size_t holdings_len,
+                    const uint8_t *fills, size_t fills_len,
+                    uint8_t *result, size_t result_len,
+                    uint32_t *indices, size_t indices_len,
+                    uint8_t *numbers, size_t numbers_len, uint64_t *answer);
 
 /*
  * The line that usm_check prints for this file, "ACCEPT groups total\n" or

@@ -1,7 +1,7 @@
 //! The library and the model as two values of one type, to hold them against each other.
 
 use crate::records::Table;
-use crate::refusal::{Accepted, RecordCounts, Refusal};
+use crate::refusal::{Accepted, PlayCounts, RecordCounts, Refusal};
 use crate::{calls, model};
 
 /// The calls of one implementation.
@@ -16,6 +16,7 @@ pub struct Calls {
     pub check_file: fn(&[u8]) -> Result<Accepted, Refusal>,
     pub read_file: fn(&[u8], &mut [u8], &mut [u8], &mut [u8]) -> Result<RecordCounts, Refusal>,
     pub write_file: fn(&[u8], &[u8], &[u8], &mut [u8]) -> Result<usize, Refusal>,
+    pub play_fills: fn(&[u8], &[u8], &mut [u8], &mut [u32], &mut [u8]) -> Result<PlayCounts, Refusal>,
     pub file_line: fn(&[u8]) -> String,
     pub file_table: fn(&[u8]) -> String,
 }
@@ -31,6 +32,7 @@ pub const LIBRARY: Calls = Calls {
     check_file: calls::check_file,
     read_file: calls::read_file,
     write_file: calls::write_file,
+    play_fills: calls::play_fills,
     file_line: calls::file_line,
     file_table: calls::file_table,
 };
@@ -46,6 +48,7 @@ pub const MODEL: Calls = Calls {
     check_file: model::check_file,
     read_file: model::read_file,
     write_file: model::write_file,
+    play_fills: model::play_fills,
     file_line: model::file_line,
     file_table: model::file_table,
 };

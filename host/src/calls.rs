@@ -5,7 +5,7 @@
 
 use crate::ffi;
 use crate::records::Table;
-use crate::refusal::{Accepted, RecordCounts, Refusal};
+use crate::refusal::{Accepted, PlayCounts, RecordCounts, Refusal};
 
 /// Runs a call that fills the four numbers of an answer, and parts results from refusals.
 fn ask(call: impl FnOnce(&mut ffi::Answer)) -> Result<[u64; 3], Refusal> {
@@ -130,6 +130,28 @@ pub fn write_file(
 ) -> Result<usize, Refusal> {
     ask(|answer| ffi::write_file(holdings, placement, claims, out, answer))
         .map(|[length, ..]| length as usize)
+}
+
+/// Plays a table of fills over a table of holdings. The holdings that come out stand in `result` from byte 0;
+/// the index and the number of each refused fill in `indices` and `numbers`, in order.
+///
+/// 1 for either table; 4 and 19 at a record of the holdings; then 17 if `result` is shorter than the longest
+/// holdings (table 1), or a list shorter than the number of fills (table 4). A refused fill is listed only.
+///
+/// ```
+/// let mut result = [0; 8192];
+/// let counts = usm::play_fills(&[], &[], &mut result, &mut [], &mut []).unwrap();
+/// assert_eq!((counts.records, counts.refused), (0, 0));
+/// ```
+pub fn play_fills(
+    holdings: &[u8],
+    fills: &[u8],
+    result: &mut [u8],
+    indices: &mut [u32],
+    numbers: &mut [u8],
+) -> Result<PlayCounts, Refusal> {
+    ask(|answer| ffi::play_fills(holdings, fills, result, indices, numbers, answer))
+        .map(|[records, refused, _]| PlayCounts { records: records as usize, refused: refused as usize })
 }
 
 /// The line `usm_check` prints for this file, with its newline.

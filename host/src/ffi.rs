@@ -76,6 +76,20 @@ extern "C" {
         answer: *mut u64,
     );
 
+    fn usm_play_fills(
+        holdings: *const u8,
+        holdings_len: usize,
+        fills: *const u8,
+        fills_len: usize,
+        result: *mut u8,
+        result_len: usize,
+        indices: *mut u32,
+        indices_len: usize,
+        numbers: *mut u8,
+        numbers_len: usize,
+        answer: *mut u64,
+    );
+
     fn usm_file_line(file: *const u8, file_len: usize, line: *mut u8) -> usize;
 
     fn usm_file_table(file: *const u8, file_len: usize, text: *mut u8) -> usize;
@@ -165,6 +179,31 @@ pub fn write_file(holdings: &[u8], placement: &[u8], claims: &[u8], out: &mut [u
             claims.len(),
             out.as_mut_ptr(),
             out.len(),
+            answer.as_mut_ptr(),
+        )
+    }
+}
+
+pub fn play_fills(
+    holdings: &[u8],
+    fills: &[u8],
+    result: &mut [u8],
+    indices: &mut [u32],
+    numbers: &mut [u8],
+    answer: &mut Answer,
+) {
+    unsafe {
+        usm_play_fills(
+            holdings.as_ptr(),
+            holdings.len(),
+            fills.as_ptr(),
+            fills.len(),
+            result.as_mut_ptr(),
+            result.len(),
+            indices.as_mut_ptr(),
+            indices.len(),
+            numbers.as_mut_ptr(),
+            numbers.len(),
             answer.as_mut_ptr(),
         )
     }

@@ -1,6 +1,6 @@
 //! The fields of a record by their places, for those who change one by hand: samples and tests.
 
-use crate::records::RECORD_BYTES;
+use crate::records::{ACTION_AT, RECORD_BYTES};
 
 /// Where a field stands in a record: offset and width in bytes.
 pub type Field = (usize, usize);
@@ -16,6 +16,8 @@ pub const STRIKE: Field = (12, 4);
 pub const EXPIRY: Field = (16, 4);
 pub const CONTRACTS: Field = (20, 4);
 pub const FILLER: Field = (24, 8);
+/// Of a fill; in a leg it is filler.
+pub const ACTION: Field = (ACTION_AT, 1);
 pub const CLAIM_MARGIN: Field = (8, 8);
 
 pub fn records(table: &[u8]) -> usize {

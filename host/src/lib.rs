@@ -4,8 +4,8 @@
 //! [docs/RULES.md](../../../../docs/RULES.md) of the repository, and what each call promises in
 //! `include/usm.h`. Work on Rust values with [`Sheet`], or on the bytes of tables and files with the
 //! functions beside it. Every input is answered: with a result, or with the first [`Refusal`] in the
-//! rules' order, whose [`Reason`] names it. [`sentences`] says for people what is wrong, and [`text`]
-//! reads and writes sheets as text.
+//! rules' order, whose [`Reason`] names it. [`play`] builds holdings from a day's fills. [`sentences`] says
+//! for people what is wrong, and [`text`] reads and writes sheets as text.
 //!
 //! No call keeps any state: all may be made from any number of threads at once.
 
@@ -36,6 +36,7 @@ pub mod model;
 pub mod program;
 
 mod calls;
+mod fills;
 mod reason;
 mod records;
 mod refusal;
@@ -43,13 +44,15 @@ mod sheet;
 
 pub use block::{BLOCK_BYTES, LONGEST_FILE, MOST_BLOCKS};
 pub use calls::{
-    check_file, check_sheet, check_table, file_line, file_table, margin, margins, read_file, worksheet,
-    write_file,
+    check_file, check_sheet, check_table, file_line, file_table, margin, margins, play_fills, read_file,
+    worksheet, write_file,
 };
+pub use fills::{fill_table, play, Played};
 pub use reason::Reason;
 pub use records::{
-    is_expiry, Claim, Leg, Line, Market, OptionType, Series, Side, Style, Table, GREATEST_AMOUNT,
-    GREATEST_STRIKE, GREATEST_UNIT_SIZE, MOST_CLAIMS, MOST_CONTRACTS, MOST_LEGS, RECORD_BYTES,
+    is_expiry, Action, Claim, Fill, Leg, Line, Market, OptionType, Series, Side, Style, Table, FILLS_TABLE,
+    GREATEST_AMOUNT, GREATEST_STRIKE, GREATEST_UNIT_SIZE, MOST_CLAIMS, MOST_CONTRACTS, MOST_FILLS, MOST_LEGS,
+    RECORD_BYTES,
 };
-pub use refusal::{Accepted, RecordCounts, Refusal};
+pub use refusal::{Accepted, PlayCounts, RecordCounts, Refusal};
 pub use sheet::{claim_table, leg_table, Sheet, Tables};

@@ -1,7 +1,7 @@
-//! Why a call refuses, as a name beside document 01's number.
+//! Why a call refuses, as a name beside its number in documents 01 and 02.
 
-/// Why a sheet, a table or a file is refused. The numbers are document 01's, in whose order refusals
-/// are looked for; `docs/RULES.md` tells of each. Later rules may bring more.
+/// Why a sheet, a table, a file or a fill is refused. The numbers are those of documents 01 and 02, in whose
+/// order refusals are looked for; `docs/RULES.md` tells of each. Later rules may bring more.
 ///
 /// ```
 /// use usm::{Reason, Refusal};
@@ -46,11 +46,15 @@ pub enum Reason {
     ClaimNotMargin = 16,
     /// 17: a lent slice has no room for the output.
     NoRoom = 17,
+    /// 18: a fill closes more contracts than are held of its line and side.
+    MoreClosedThanHeld = 18,
+    /// 19: more than 100,000 contracts of a line and side, or a fill of a 257th line and side.
+    TooMuchHeld = 19,
 }
 
 impl Reason {
     /// All of them, in the order of their numbers.
-    pub const ALL: [Reason; 17] = [
+    pub const ALL: [Reason; 19] = [
         Reason::WrongSize,
         Reason::ChecksDiffer,
         Reason::BlockOutOfForm,
@@ -68,9 +72,11 @@ impl Reason {
         Reason::ShortNotPlaced,
         Reason::ClaimNotMargin,
         Reason::NoRoom,
+        Reason::MoreClosedThanHeld,
+        Reason::TooMuchHeld,
     ];
 
-    /// Document 01's number for it.
+    /// Its number in documents 01 and 02.
     pub fn number(self) -> u64 {
         self as u64
     }
@@ -86,10 +92,10 @@ mod tests {
     use super::*;
 
     #[test]
-    fn reasons_are_numbered_1_to_17() {
+    fn reasons_are_numbered_1_to_19() {
         let numbers: Vec<u64> = Reason::ALL.into_iter().map(Reason::number).collect();
-        assert_eq!(numbers, (1..=17).collect::<Vec<u64>>());
+        assert_eq!(numbers, (1..=19).collect::<Vec<u64>>());
         assert!(Reason::ALL.into_iter().all(|reason| Reason::of_number(reason.number()) == Some(reason)));
-        assert_eq!([0, 18, u64::MAX].map(Reason::of_number), [None; 3]);
+        assert_eq!([0, 20, u64::MAX].map(Reason::of_number), [None; 3]);
     }
 }

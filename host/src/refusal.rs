@@ -26,6 +26,15 @@ pub struct RecordCounts {
     pub claims: usize,
 }
 
+/// What became of a day's fills.
+#[derive(Clone, Copy, Debug, PartialEq, Eq)]
+pub struct PlayCounts {
+    /// Records of the holdings that came out.
+    pub records: usize,
+    /// Fills that were refused, each of which changed nothing.
+    pub refused: usize,
+}
+
 /// A refusal: the first that applies in the order of document 01.
 ///
 /// Its `Display` is a sentence for people, in which blocks and records count as people count, from the
@@ -33,9 +42,9 @@ pub struct RecordCounts {
 /// `usm_check` prints.
 #[derive(Clone, Copy, Debug, PartialEq, Eq)]
 pub struct Refusal {
-    /// 1 to 17.
+    /// 1 to 19.
     pub number: u64,
-    /// 0 none, 1 holdings, 2 placement, 3 claims.
+    /// 0 none, 1 holdings, 2 placement, 3 claims, 4 fills.
     pub table: u64,
     /// A block, a record, a group or a count, by the number.
     pub place: u64,

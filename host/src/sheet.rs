@@ -132,14 +132,18 @@ pub fn claim_table(claims: &[Claim]) -> Vec<u8> {
     claims.iter().flat_map(Claim::to_bytes).collect()
 }
 
-/// The first `count` records of a table the reader has filled: it let only good ones pass.
-fn records<T>(table: &[u8], count: usize, from_bytes: impl Fn(&[u8; RECORD_BYTES]) -> Option<T>) -> Vec<T> {
+/// The first `count` records of a table that a call has filled: it let only good ones pass.
+pub(crate) fn records<T>(
+    table: &[u8],
+    count: usize,
+    from_bytes: impl Fn(&[u8; RECORD_BYTES]) -> Option<T>,
+) -> Vec<T> {
     table
         .chunks_exact(RECORD_BYTES)
         .take(count)
         .map(|record| {
             let record = record.try_into().expect("a chunk is one record");
-            from_bytes(record).expect("the reader refuses fields out of range")
+            from_bytes(record).expect("fields out of range are refused")
         })
         .collect()
 }

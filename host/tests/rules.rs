@@ -8,7 +8,7 @@ use std::path::{Path, PathBuf};
 
 use usm::accounts::{leg, placed};
 use usm::both::BOTH;
-use usm::{claim_table, leg_table, Claim, Refusal, Sheet, Table};
+use usm::{claim_table, leg_table, Claim, Reason, Refusal, Sheet, Table};
 
 const PAGES: [&str; 3] = ["README.md", "docs/RULES.md", "docs/ARCHITECTURE.md"];
 
@@ -120,7 +120,7 @@ fn the_rules_stand_under_their_headings() {
         "Code places and their forms",
     ];
     assert_eq!(headings, expected);
-    for number in 1..=17 {
+    for number in Reason::ALL.map(Reason::number) {
         let row = |line: &str| {
             let cell = line.strip_prefix("| ").and_then(|line| line.split(" |").next()).unwrap_or("");
             cell.split(", ").any(|word| word == number.to_string())

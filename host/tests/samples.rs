@@ -9,7 +9,7 @@ use std::fs;
 use std::path::{Path, PathBuf};
 
 use usm::both::BOTH;
-use usm::{text, Sheet};
+use usm::{play, sentences, text, Sheet};
 
 fn committed() -> PathBuf {
     Path::new(env!("CARGO_MANIFEST_DIR")).join("../samples")
@@ -19,6 +19,7 @@ fn files_in(folder: &Path) -> BTreeMap<String, Vec<u8>> {
     let entries =
         fs::read_dir(folder).expect("the folder is there").map(|entry| entry.expect("an entry").path());
     entries
+        .filter(|path| path.is_file())
         .map(|path| {
             let name = path.file_name().expect("a name").to_string_lossy().into_owned();
             (name, fs::read(&path).expect("a file that can be read"))
@@ -55,6 +56,29 @@ fn the_committed_samples_are_what_the_program_makes() {
     for (name, bytes) in &made {
         assert!(bytes == &committed[name], "{name} is not what usm_samples makes");
     }
+}
+
+/// The folder of fills: what the program makes of it, what the page says, and what playing gives.
+#[test]
+fn the_fills_make_todays_holdings_of_yesterdays() {
+    let made = common::folder("samples-fills");
+    let status =
+        common::program(env!("CARGO_BIN_EXE_usm_samples")).arg(&made).status().expect("usm_samples runs");
+    assert!(status.success());
+    let committed = committed().join("fills");
+    assert_eq!(files_in(&made.join("fills")), files_in(&committed));
+    let text = |name: &str| fs::read_to_string(committed.join(name)).expect(name);
+    let yesterday = text::parse(&text("yesterday.txt")).expect("holdings").holdings;
+    let fills = text::parse_fills(&text("fills.txt")).expect("fills");
+    let today = text::parse(&text("today.txt")).expect("holdings").holdings;
+    let played = play(&yesterday, &fills).expect("a day");
+    assert_eq!(played.holdings, today);
+    let sentences: Vec<String> = played
+        .refused
+        .iter()
+        .map(|refusal| format!("{} {}", refusal.number, sentences::of_fills(&yesterday, &fills, refusal)))
+        .collect();
+    assert_eq!(sentences, text("refused.txt").lines().collect::<Vec<&str>>());
 }
 
 #[test]

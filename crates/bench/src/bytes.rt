@@ -32,7 +32,7 @@ pub(crate) fn copy_to(memory: &mut [u8], at: usize, s: &[u8])
 // Copies the 32 bytes before `at` to the 32 bytes from `at` on.
 pub(crate) fn copy_record(memory: &mut [u8], at: usize)
     requires { ⌜ 32 ≤ at ⌝ }
-    requires { ⌜ at ≤ 65536 ⌝ }
+    requires { ⌜ at ≤ 98304 ⌝ }
 {
     let mut i: usize = 0;
     while i < 32 {

@@ -17,7 +17,7 @@ use crate::text::smaller;
 // The first five numbers of a line, as fields of the leg record at `at`: group, side, type, style,
 // market.
 fn put_first_fields(memory: &mut [u8], at: usize, line: &[u8])
-    requires { ⌜ at ≤ 65536 ⌝ }
+    requires { ⌜ at ≤ 98304 ⌝ }
 {
     add_number(memory, at, 2, number(line, 1));
     add_number(memory, at + 2, 1, number(line, 2));
@@ -28,7 +28,7 @@ fn put_first_fields(memory: &mut [u8], at: usize, line: &[u8])
 
 // The last five: unit size, underlying, strike, expiry, contracts.
 fn put_last_fields(memory: &mut [u8], at: usize, line: &[u8])
-    requires { ⌜ at ≤ 65536 ⌝ }
+    requires { ⌜ at ≤ 98304 ⌝ }
 {
     add_number(memory, at + 6, 2, number(line, 6));
     add_number(memory, at + 8, 4, number(line, 7));
@@ -37,9 +37,16 @@ fn put_last_fields(memory: &mut [u8], at: usize, line: &[u8])
     add_number(memory, at + 20, 4, number(line, 10));
 }
 
+// The number after a leg's, as the action of the fill at `at`; 0 where the line has none.
+fn put_action(memory: &mut [u8], at: usize, line: &[u8])
+    requires { ⌜ at ≤ 98304 ⌝ }
+{
+    add_number(memory, at + 24, 1, number(line, 11));
+}
+
 // Group and margin of a line, as the fields of the claim record at `at`.
 fn put_claim(memory: &mut [u8], at: usize, line: &[u8])
-    requires { ⌜ at ≤ 65536 ⌝ }
+    requires { ⌜ at ≤ 98304 ⌝ }
 {
     add_number(memory, at, 2, number(line, 1));
     add_number(memory, at + 8, 8, number(line, 2));
@@ -60,6 +67,7 @@ pub(crate) fn append(line: &[u8], memory: &mut [u8], sizes: &mut [usize]) {
     }
     put_first_fields(memory, at, line);
     put_last_fields(memory, at, line);
+    put_action(memory, at, line);
 }
 
 // Repeats the last record until there are so many.
@@ -87,11 +95,12 @@ fn clear(memory: &mut [u8], sizes: &mut [usize]) {
     resize(memory, sizes, b'p', 0);
     resize(memory, sizes, b'c', 0);
     resize(memory, sizes, b'f', 0);
+    resize(memory, sizes, b'd', 0);
 }
 
 // The commands on whole records. Whether the line is one of them; if so, it is done.
 fn edit_records(line: &[u8], memory: &mut [u8], sizes: &mut [usize]) -> bool {
-    if says(line, b"h") | says(line, b"p") | says(line, b"c") {
+    if says(line, b"h") | says(line, b"p") | says(line, b"c") | says(line, b"d") {
         append(line, memory, sizes);
         return true;
     }

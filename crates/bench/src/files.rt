@@ -18,9 +18,9 @@ use blocks::Writing;
 use verdicts::TABLE_BYTES;
 
 // What each byte of a lent buffer holds before a call.
-const NO_BYTE: u8 = 170;
+pub(crate) const NO_BYTE: u8 = 170;
 
-fn kept(s: &[u8], from: usize) -> bool {
+pub(crate) fn kept(s: &[u8], from: usize) -> bool {
     let mut i = from;
     while i < s.len() {
         if s[i] != NO_BYTE {

@@ -2,9 +2,10 @@
 //
 // A line that starts with # is printed as it stands; an empty line is passed over. A command that
 // answers is printed with its answer. Tables are named by a letter, h holdings, p placement,
-// c claims, and the file by f; numbers are decimal.
+// c claims, d the day's fills, and the file by f; numbers are decimal.
 //
 //   h, p GROUP SIDE TYPE STYLE MARKET SIZE UNDERLYING STRIKE EXPIRY CONTRACTS   append a leg
+//   d .. CONTRACTS ACTION   append a fill: the numbers of a leg, then 1 open or 2 close
 //   c GROUP MARGIN          append a claim
 //   fill T N STRIKE GROUP   append copies of the last record until there are N, each with so much
 //                           more strike and group than the one before
@@ -16,8 +17,12 @@
 //   try h|p|c ..            empty a table, append the record and check the table
 //   check T · margin G · margins N ROOM · worksheet G STRIKES NETS · sheet
 //   write ROOM · file · table · read ROOM ROOM ROOM
+//   play RESULT INDICES NUMBERS   play the fills over the holdings, in slices of so many entries; the
+//                           result becomes the holdings, and no fills are left. Of the rows the last
+//                           eight are printed, of the refused fills the first eight
 mod bytes;
 mod calls;
+mod day;
 mod edits;
 mod files;
 mod lists;
@@ -106,6 +111,10 @@ fn ask(line: &[u8], memory: &mut [u8], sizes: &mut [usize]) {
     if ask_files(line, memory, sizes) {
         return;
     }
+    if says(line, b"play") {
+        day::play(line, memory, sizes);
+        return;
+    }
     print(b" ?\n");
 }
 
@@ -139,6 +148,6 @@ fn main() {
     let mut script = io::large_buffer();
     let n = io::read_full(STDIN_FILENO, &mut script);
     let mut memory = io::large_buffer();
-    let mut sizes = [0usize; 4];
+    let mut sizes = [0usize; 5];
     run(&script[..n], &mut memory, &mut sizes);
 }

@@ -1,5 +1,6 @@
 // The bench's memory: the three tables and the file, each at its own place of one buffer of 65,536
 // bytes, and their lengths in bytes. A letter names each: h holdings, p placement, c claims, f file.
+// The day's fills, d, stand where placement, claims and file do: a script has the one or the others.
 // What does not fit is left out: each function is total.
 ghost use Prim.Native.Nat.{_≤_, _<_};
 use crate::bytes::add_number;
@@ -10,13 +11,14 @@ use crate::text::part;
 use crate::text::smaller;
 
 fn slot(name: u8) -> usize
-    ensures { λ r. ⌜ r < 4 ⌝ }
+    ensures { λ r. ⌜ r < 5 ⌝ }
 {
     match name {
         b'h' => 0,
         b'p' => 1,
         b'c' => 2,
-        _ => 3,
+        b'd' => 3,
+        _ => 4,
     }
 }
 
@@ -27,24 +29,26 @@ pub(crate) fn base(name: u8) -> usize
         b'h' => 0,
         b'p' => 16384,
         b'c' => 32768,
+        b'd' => 16384,
         _ => 40960,
     }
 }
 
 pub(crate) fn room(name: u8) -> usize
-    ensures { λ r. ⌜ r ≤ 24576 ⌝ }
+    ensures { λ r. ⌜ r ≤ 32800 ⌝ }
 {
     match name {
         b'h' => 16384,
         b'p' => 16384,
         b'c' => 8192,
+        b'd' => 32800,
         _ => 24576,
     }
 }
 
 // The length in bytes of a table or of the file.
 pub(crate) fn size(sizes: &[usize], name: u8) -> usize
-    ensures { λ r. ⌜ r ≤ 24576 ⌝ }
+    ensures { λ r. ⌜ r ≤ 32800 ⌝ }
 {
     let k = slot(name);
     if k < sizes.len() {

@@ -10,3 +10,4 @@ pub mod Unique
 pub mod DateLaws
 pub mod SameLaws
 pub mod LineLaws
+pub mod LegLaws

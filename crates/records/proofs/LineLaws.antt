@@ -1,13 +1,15 @@
 -- Lines and sides are the same just where they are one value.
-use mathlib.Core.Path.{_≡_, refl}
+use mathlib.Core.Path.{_≡_, refl, _∙_}
 use mathlib.Core.Bool.{Bool, true, false, _&&_, and-true, and-assoc}
 use mathlib.Core.Logic.{_↔_}
 use mathlib.Core.List.{List}
 use Prim.Native.Nat.{ℕ}
 use lib.Dec.{eqb}
 use borrow.Author.Tests.{eq-eqb}
+use Rattle.records.specs.Legs.{withContracts}
 use Rattle.records.specs.Lists.{same}
 use Rattle.records.specs.Lines.{lineOf, lineSideOf, sameLine, sameLineSide}
+use Rattle.records.specs.declared.counts.Contracts.{Contracts}
 use Rattle.records.specs.declared.legs.Leg.{Leg}
 use Rattle.records.proofs.SameLaws.{same-refl, same-true, true-same, same-sym, same-swap}
 
@@ -35,3 +37,15 @@ line-sym x y = same-sym (lineSideOf x) (lineSideOf y)
 pub line-swap : (x y z : Leg) → sameLineSide y z ≡ true → sameLineSide x y ≡ sameLineSide x z
 unfolding sameLineSide
 line-swap x y z e = same-swap (lineSideOf x) (lineSideOf y) (lineSideOf z) e
+
+pub swap-line : (x y z : Leg) → sameLineSide x y ≡ true → sameLineSide x z ≡ sameLineSide y z
+swap-line x y z e = line-sym x z ∙ line-swap z x y e ∙ line-sym z y
+
+-- another count of contracts is the same line and side
+pub line-with : (x y : Leg) (c : Contracts) → sameLineSide x (withContracts y c) ≡ sameLineSide x y
+unfolding sameLineSide withContracts
+line-with x y c = refl
+
+pub with-line : (x y : Leg) (c : Contracts) → sameLineSide (withContracts x c) y ≡ sameLineSide x y
+unfolding sameLineSide withContracts
+with-line x y c = refl

@@ -5,11 +5,11 @@ use mathlib.Core.List.{List}
 use Prim.Native.Nat.{ℕ}
 use Rattle.records.specs.Bytes.{leAt}
 use Rattle.records.specs.Chunks.{chunkAt}
-use Rattle.records.specs.Legs.{legOf, unitsOf, plusUnits}
+use Rattle.records.specs.Legs.{legOf, legBytes, unitsOf, plusUnits, plusContracts, lessContracts, withContracts}
 use Rattle.records.specs.Claims.{claimOf}
 use Rattle.records.specs.Lines.{sameLine, sameLineSide}
 use Rattle.records.specs.Order.{firstOf}
-use Rattle.records.specs.Tables.{tableNumber, wholeTables, fieldChecks, fieldsChecks, countedOf}
+use Rattle.records.specs.Tables.{tableNumber, goodRecord, wholeTable, wholeTables, fieldChecks, fieldsChecks, countedOf}
 use Rattle.records.specs.declared.counts.Contracts.{Contracts}
 use Rattle.records.specs.declared.counts.Units.{Units}
 use Rattle.records.specs.declared.legs.Leg.{Leg}
@@ -37,6 +37,18 @@ units-unique c size r s = one-outcome
 plus-unique : (a b r s : Units) → r ≡ plusUnits a b → s ≡ plusUnits a b → r ≡ s
 plus-unique a b r s = one-outcome
 
+contracts-plus-unique : (a b r s : Contracts) → r ≡ plusContracts a b → s ≡ plusContracts a b → r ≡ s
+contracts-plus-unique a b r s = one-outcome
+
+less-unique : (a b r s : Contracts) → r ≡ lessContracts a b → s ≡ lessContracts a b → r ≡ s
+less-unique a b r s = one-outcome
+
+with-contracts-unique : (l : Leg) (c : Contracts) (r s : Leg) → r ≡ withContracts l c → s ≡ withContracts l c → r ≡ s
+with-contracts-unique l c r s = one-outcome
+
+leg-bytes-unique : (l : Leg) (r s : List ℕ) → r ≡ legBytes l → s ≡ legBytes l → r ≡ s
+leg-bytes-unique l r s = one-outcome
+
 same-line-unique : (a b : Leg) (r s : Bool) → r ≡ sameLine a b → s ≡ sameLine a b → r ≡ s
 same-line-unique a b r s = one-outcome
 
@@ -45,6 +57,12 @@ same-line-side-unique a b r s = one-outcome
 
 table-number-unique : (kind : Kind) (r s : ℕ) → r ≡ tableNumber kind → s ≡ tableNumber kind → r ≡ s
 table-number-unique kind r s = one-outcome
+
+good-record-unique : (kind : Kind) (part : List ℕ) (r s : Bool) → r ≡ goodRecord kind part → s ≡ goodRecord kind part → r ≡ s
+good-record-unique kind part r s = one-outcome
+
+whole-table-unique : (kind : Kind) (bytes : ℕ) (r s : Bool) → r ≡ wholeTable kind bytes → s ≡ wholeTable kind bytes → r ≡ s
+whole-table-unique kind bytes r s = one-outcome
 
 whole-tables-unique : (h p c : ℕ) (r s : Bool) → r ≡ wholeTables h p c → s ≡ wholeTables h p c → r ≡ s
 whole-tables-unique h p c r s = one-outcome

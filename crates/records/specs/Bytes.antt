@@ -1,7 +1,7 @@
 -- Bytes of a record or a block: the numbers they say, 'little-endian', and the places that are zero.
-use Prim.Native.Nat.{ℕ, zero, suc, _+_, _-_, _*_}
+use Prim.Native.Nat.{ℕ, zero, suc, _+_, _-_, _*_, _/_, _%_}
 use mathlib.Core.Bool.{Bool}
-use mathlib.Core.List.{List}
+use mathlib.Core.List.{List, [], _∷_}
 use lib.Dec.{eqb}
 use lib.ListN.{getD, take, drop}
 use Rattle.records.specs.Lists.{allOf}
@@ -10,6 +10,11 @@ use Rattle.records.specs.Lists.{allOf}
 unfoldable pub leAt : List ℕ → ℕ → ℕ → ℕ
 leAt xs at zero = 0
 leAt xs at (suc width) = getD xs at 0 + 256 * leAt xs (at + 1) width
+
+-- the bytes of a number, lowest first, `width` of them
+unfoldable pub leBytes : ℕ → ℕ → List ℕ
+leBytes n zero = []
+leBytes n (suc width) = n % 256 ∷ leBytes (n / 256) width
 
 abbrev pub isZero : ℕ → Bool
 isZero x = eqb x 0

@@ -1,10 +1,10 @@
 -- A leg record of 32 bytes: document 01's table of fields, row by row.
-use Prim.Native.Nat.{ℕ, _+_, _*_, min}
+use Prim.Native.Nat.{ℕ, _+_, _-_, _*_, min}
 use mathlib.Core.Bool.{Bool, _&&_, cond}
-use mathlib.Core.List.{List, []}
+use mathlib.Core.List.{List, [], _∷_, _++_}
 use lib.Dec.{eqb, leb}
-use lib.ListN.{length}
-use Rattle.records.specs.Bytes.{leAt, zeroIn}
+use lib.ListN.{length, replicate}
+use Rattle.records.specs.Bytes.{leAt, leBytes, zeroIn}
 use Rattle.records.specs.Within.{within}
 use Rattle.records.specs.Dates.{realDate}
 use Rattle.records.specs.declared.counts.Contracts.{Contracts}
@@ -33,6 +33,18 @@ legFields xs =
 -- the fields of a part of at least 32 bytes; those of a shorter one are all zero, as of no bytes
 unfoldable pub legOf : List ℕ → Leg
 legOf xs = legFields (cond (leb 32 (length xs)) xs [])
+
+-- the 32 bytes that say these fields; the filler is zero
+unfoldable pub legBytes : Leg → List ℕ
+legBytes l =
+    leBytes (l .group) 2
+    ++ (l .side ∷ l .right ∷ l .style ∷ l .market ∷ [])
+    ++ leBytes (l .size) 2
+    ++ leBytes (l .underlying) 4
+    ++ leBytes (l .strike) 4
+    ++ leBytes (l .expiry) 4
+    ++ leBytes (l .contracts .0) 4
+    ++ replicate 8 0
 
 -- each field's range; the group is at most `top`
 unfoldable pub inRange : ℕ → Leg → Bool
@@ -84,3 +96,27 @@ noUnits = record { 0 = 0 }
 -- added, up to the end of the type
 abbrev pub plusUnits : Units → Units → Units
 plusUnits a b = record { 0 = min (a .0 + b .0) 18446744073709551615 }
+
+-- added, up to the end of the type
+abbrev pub plusContracts : Contracts → Contracts → Contracts
+plusContracts a b = record { 0 = min (a .0 + b .0) 4294967295 }
+
+-- what is left of a once b is taken away, down to none
+abbrev pub lessContracts : Contracts → Contracts → Contracts
+lessContracts a b = record { 0 = a .0 - b .0 }
+
+-- the same leg with another count of contracts
+unfoldable pub withContracts : Leg → Contracts → Leg
+withContracts l c =
+    record {
+      group = l .group;
+      side = l .side;
+      right = l .right;
+      style = l .style;
+      market = l .market;
+      size = l .size;
+      underlying = l .underlying;
+      strike = l .strike;
+      expiry = l .expiry;
+      contracts = c;
+    }

@@ -1,7 +1,7 @@
 // A count of contracts never stands in for a count of underlying units: each is a type of its own
 // whose field other crates cannot reach, and only multiplying by unit size leads from one to the other.
 ghost use mathlib.Core.Path.{_≡_};
-ghost use Rattle.records.specs.Legs.{unitsOf, plusUnits, noUnits};
+ghost use Rattle.records.specs.Legs.{unitsOf, plusUnits, noUnits, plusContracts, lessContracts};
 
 pub struct Contracts(pub(crate) u32);
 
@@ -20,6 +20,30 @@ impl Contracts {
         ensures { λ r. ⌜ r ≡ self .0 ⌝ }
     {
         self.0
+    }
+
+    // Two counts added; a sum past the type's end stays at the end.
+    pub fn plus(self, more: Contracts) -> Contracts
+        ensures { λ r. ⌜ r ≡ plusContracts self more ⌝ }
+    {
+        let a = self.0;
+        let added = more.0;
+        if added <= 4294967295 - a {
+            return Contracts(a + added);
+        }
+        Contracts(4294967295)
+    }
+
+    // What is left of a count once another is taken away, down to none.
+    pub fn less(self, taken: Contracts) -> Contracts
+        ensures { λ r. ⌜ r ≡ lessContracts self taken ⌝ }
+    {
+        let a = self.0;
+        let b = taken.0;
+        if b <= a {
+            return Contracts(a - b);
+        }
+        Contracts(0)
     }
 }
 

@@ -3,7 +3,7 @@ ghost use mathlib.Core.Path.{_≡_};
 ghost use Prim.Native.Nat.{_≤_};
 ghost use lib.ListN.{length};
 ghost use Rattle.records.specs.Chunks.{chunkAt};
-ghost use Rattle.records.specs.Legs.{legFields, legOf, inRange, goodLeg};
+ghost use Rattle.records.specs.Legs.{legFields, legOf, legBytes, withContracts, inRange, goodLeg};
 use crate::counts::Contracts;
 use crate::dates::real_date;
 use crate::fields::u8_in;
@@ -46,6 +46,15 @@ pub struct Leg {
     pub contracts: Contracts,
 }
 
+impl Leg {
+    // The same leg with another count of contracts.
+    pub fn with_contracts(self, contracts: Contracts) -> Leg
+        ensures { λ r. ⌜ r ≡ withContracts self contracts ⌝ }
+    {
+        Leg { contracts, ..self }
+    }
+}
+
 fn leg_fields(part: &[u8]) -> Leg
     requires { ⌜ 32 ≤ length (now part) ⌝ }
     ensures { λ r. ⌜ r ≡ legFields (now (part .entry)) ⌝ }
@@ -85,6 +94,46 @@ pub fn leg_at(table: &[u8], i: usize) -> Leg
         expiry: 0,
         contracts: Contracts(0),
     }
+}
+
+// The 32 bytes that say a leg's fields; the filler is zero.
+pub fn leg_bytes(leg: Leg) -> [u8; 32]
+    ensures { λ r. ⌜ r ≡ legBytes leg ⌝ }
+{
+    [
+        (leg.group % 256) as u8,
+        (leg.group / 256 % 256) as u8,
+        leg.side,
+        leg.right,
+        leg.style,
+        leg.market,
+        (leg.size % 256) as u8,
+        (leg.size / 256 % 256) as u8,
+        (leg.underlying % 256) as u8,
+        (leg.underlying / 256 % 256) as u8,
+        (leg.underlying / 256 / 256 % 256) as u8,
+        (leg.underlying / 256 / 256 / 256 % 256) as u8,
+        (leg.strike % 256) as u8,
+        (leg.strike / 256 % 256) as u8,
+        (leg.strike / 256 / 256 % 256) as u8,
+        (leg.strike / 256 / 256 / 256 % 256) as u8,
+        (leg.expiry % 256) as u8,
+        (leg.expiry / 256 % 256) as u8,
+        (leg.expiry / 256 / 256 % 256) as u8,
+        (leg.expiry / 256 / 256 / 256 % 256) as u8,
+        (leg.contracts.0 % 256) as u8,
+        (leg.contracts.0 / 256 % 256) as u8,
+        (leg.contracts.0 / 256 / 256 % 256) as u8,
+        (leg.contracts.0 / 256 / 256 / 256 % 256) as u8,
+        0,
+        0,
+        0,
+        0,
+        0,
+        0,
+        0,
+        0,
+    ]
 }
 
 fn in_range(top: u16, leg: Leg) -> bool

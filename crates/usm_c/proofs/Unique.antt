@@ -13,7 +13,7 @@ use Rattle.sheets.specs.Verdicts.{verdictOf}
 use Rattle.verdicts.specs.FileVerdicts.{fileVerdict}
 use Rattle.verdicts.specs.TableText.{tableText}
 use Rattle.usm_c.specs.Answers.{dueWords, verdictWords, tableWords}
-use Rattle.usm_c.specs.Outcomes.{marginsWords, marginsLeft, worksheetWords, strikesLeft, netsLeft, readWords, tableLeft, writeWords, outLeft, fileLine}
+use Rattle.usm_c.specs.Outcomes.{marginsWords, marginsLeft, worksheetWords, strikesLeft, netsLeft, readWords, tableLeft, writeWords, outLeft, playWords, resultLeft, indicesLeft, numbersLeft, fileLine}
 
 -- ---- calls that leave an answer only
 
@@ -61,6 +61,19 @@ module _ (t : Tables) (out : List ℕ) where
 
   out-left-unique : (a b : List ℕ) → a ≡ outLeft t out → b ≡ outLeft t out → a ≡ b
   out-left-unique a b = one-outcome
+
+module _ (h f d i m : List ℕ) where
+  play-fills-unique : (a b : List ℕ) → a ≡ playWords h f d i m → b ≡ playWords h f d i m → a ≡ b
+  play-fills-unique a b = one-outcome
+
+  result-left-unique : (a b : List ℕ) → a ≡ resultLeft h f d i m → b ≡ resultLeft h f d i m → a ≡ b
+  result-left-unique a b = one-outcome
+
+  indices-left-unique : (a b : List ℕ) → a ≡ indicesLeft h f d i m → b ≡ indicesLeft h f d i m → a ≡ b
+  indices-left-unique a b = one-outcome
+
+  numbers-left-unique : (a b : List ℕ) → a ≡ numbersLeft h f d i m → b ≡ numbersLeft h f d i m → a ≡ b
+  numbers-left-unique a b = one-outcome
 
 module _ (file line : List ℕ) where
   file-line-unique : (a b : ℕ) → a ≡ length (fileLine file) → b ≡ length (fileLine file) → a ≡ b

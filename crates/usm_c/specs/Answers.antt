@@ -21,6 +21,8 @@ use Rattle.spreads.specs.declared.calls.Listed.{Listed}
 use Rattle.spreads.specs.declared.calls.Listed.the-variants.{Entries, Refused as Refused-listed}
 use Rattle.sheets.specs.declared.sheet.Verdict.{Verdict}
 use Rattle.sheets.specs.declared.sheet.Verdict.the-variants.{Accepted, Refused as Refused-verdict}
+use Rattle.fills.specs.declared.calls.Played.{Played}
+use Rattle.fills.specs.declared.calls.Played.the-variants.{Done, Refused as Refused-played}
 
 abbrev pub doneWords : ℕ → ℕ → ℕ → List ℕ
 doneWords a b c = 0 ∷ a ∷ b ∷ c ∷ []
@@ -57,6 +59,11 @@ readingWords (Refused-reading r) = refusedWords r
 abbrev pub writingWords : Writing → List ℕ
 writingWords (Wrote n) = doneWords n 0 0
 writingWords (Refused-writing r) = refusedWords r
+
+-- how many result records, and how many refused fills
+abbrev pub playedWords : Played → List ℕ
+playedWords (Done records refused) = doneWords records refused 0
+playedWords (Refused-played r) = refusedWords r
 
 -- a table of the kind with this number, 1 holdings, 2 placement, 3 claims; any other is refusal 1
 unfoldable pub tableWords : ℕ → List ℕ → List ℕ

@@ -13,7 +13,9 @@ use Rattle.spreads.specs.Strikes.{strikesOf, netsOf}
 use Rattle.spreads.specs.Calls.{marginsCall, marginsFrom, worksheetCall, listLeft}
 use Rattle.verdicts.specs.FileVerdicts.{fileVerdict}
 use Rattle.verdicts.specs.Printed.{lineOf}
-use Rattle.usm_c.specs.Answers.{listedWords, readingWords, writingWords}
+use Rattle.fills.specs.Rows.{bytesOf}
+use Rattle.fills.specs.Calls.{rowsPlayed, refusedIn, playOf, left, indicesOf, numbersOf}
+use Rattle.usm_c.specs.Answers.{listedWords, readingWords, writingWords, playedWords}
 
 -- ---- the margins of groups 1 to n
 
@@ -50,6 +52,23 @@ writeWords t out = writingWords (writeOf t (length out))
 
 abbrev pub outLeft : Tables → List ℕ → List ℕ
 outLeft t out = filled (writeOf t (length out)) t out
+
+-- ---- the day's fills played over holdings, into a result and two lists
+
+abbrev pub playWords : List ℕ → List ℕ → List ℕ → List ℕ → List ℕ → List ℕ
+playWords holdings fills result indices numbers = playedWords (playOf holdings fills (length result) (length indices) (length numbers))
+
+abbrev pub resultLeft : List ℕ → List ℕ → List ℕ → List ℕ → List ℕ → List ℕ
+resultLeft holdings fills result indices numbers =
+    left (playOf holdings fills (length result) (length indices) (length numbers)) (bytesOf (rowsPlayed holdings fills)) result
+
+abbrev pub indicesLeft : List ℕ → List ℕ → List ℕ → List ℕ → List ℕ → List ℕ
+indicesLeft holdings fills result indices numbers =
+    left (playOf holdings fills (length result) (length indices) (length numbers)) (indicesOf (refusedIn holdings fills)) indices
+
+abbrev pub numbersLeft : List ℕ → List ℕ → List ℕ → List ℕ → List ℕ → List ℕ
+numbersLeft holdings fills result indices numbers =
+    left (playOf holdings fills (length result) (length indices) (length numbers)) (numbersOf (refusedIn holdings fills)) numbers
 
 -- ---- the line of a file
 

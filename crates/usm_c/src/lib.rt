@@ -11,7 +11,7 @@ ghost use Rattle.sheets.specs.Verdicts.{verdictOf};
 ghost use Rattle.verdicts.specs.FileVerdicts.{fileVerdict};
 ghost use Rattle.verdicts.specs.TableText.{tableText};
 ghost use Rattle.usm_c.specs.Answers.{dueWords, verdictWords, tableWords};
-ghost use Rattle.usm_c.specs.Outcomes.{marginsWords, marginsLeft, worksheetWords, strikesLeft, netsLeft, readWords, tableLeft, writeWords, outLeft, fileLine};
+ghost use Rattle.usm_c.specs.Outcomes.{marginsWords, marginsLeft, worksheetWords, strikesLeft, netsLeft, readWords, tableLeft, writeWords, outLeft, playWords, resultLeft, indicesLeft, numbersLeft, fileLine};
 
 mod words;
 
@@ -19,6 +19,7 @@ use verdicts::LINE_BYTES;
 use verdicts::TABLE_BYTES;
 use words::due_words;
 use words::listed_words;
+use words::played_words;
 use words::reading_words;
 use words::table_words;
 use words::verdict_words;
@@ -116,6 +117,24 @@ pub extern "C" fn usm_write_file(
     ensures { λ _. ⌜ now (out .exit) ≡ outLeft (tables (now (holdings .entry)) (now (placement .entry)) (now (claims .entry))) (now (out .entry)) ⌝ }
 {
     *answer = writing_words(blocks::write_file(holdings, placement, claims, out));
+}
+
+// The day's fills played over holdings: the table that then stands, and which fills were refused.
+#[no_mangle]
+pub extern "C" fn usm_play_fills(
+    holdings: &[u8],
+    fills: &[u8],
+    result: &mut [u8],
+    indices: &mut [u32],
+    numbers: &mut [u8],
+    answer: &mut [u64; 4],
+)
+    ensures { λ _. ⌜ now (answer .exit) ≡ playWords (now (holdings .entry)) (now (fills .entry)) (now (result .entry)) (now (indices .entry)) (now (numbers .entry)) ⌝ }
+    ensures { λ _. ⌜ now (result .exit) ≡ resultLeft (now (holdings .entry)) (now (fills .entry)) (now (result .entry)) (now (indices .entry)) (now (numbers .entry)) ⌝ }
+    ensures { λ _. ⌜ now (indices .exit) ≡ indicesLeft (now (holdings .entry)) (now (fills .entry)) (now (result .entry)) (now (indices .entry)) (now (numbers .entry)) ⌝ }
+    ensures { λ _. ⌜ now (numbers .exit) ≡ numbersLeft (now (holdings .entry)) (now (fills .entry)) (now (result .entry)) (now (indices .entry)) (now (numbers .entry)) ⌝ }
+{
+    *answer = played_words(fills::play(holdings, fills, result, indices, numbers));
 }
 
 // The line that is printed for a sheet file; the answer is its length.

@@ -1,8 +1,9 @@
 // The four words of each kind of answer.
 ghost use mathlib.Core.Path.{_≡_};
-ghost use Rattle.usm_c.specs.Answers.{doneWords, refusedWords, countedWords, dueWords, listedWords, verdictWords, readingWords, writingWords, tableWords, DueMills, VerdictMills};
+ghost use Rattle.usm_c.specs.Answers.{doneWords, refusedWords, countedWords, dueWords, listedWords, verdictWords, readingWords, writingWords, playedWords, tableWords, DueMills, VerdictMills};
 use blocks::Reading;
 use blocks::Writing;
+use fills::Played;
 use records::Counted;
 use records::Kind;
 use records::Refusal;
@@ -80,6 +81,15 @@ pub(crate) fn writing_words(writing: Writing) -> [u64; 4]
     match writing {
         Writing::Wrote(n) => done(n as u64, 0, 0),
         Writing::Refused(refusal) => refused(refusal),
+    }
+}
+
+pub(crate) fn played_words(played: Played) -> [u64; 4]
+    ensures { λ r. ⌜ r ≡ playedWords played ⌝ }
+{
+    match played {
+        Played::Done(records, refusals) => done(records as u64, refusals as u64, 0),
+        Played::Refused(refusal) => refused(refusal),
     }
 }
 

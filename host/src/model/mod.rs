@@ -6,6 +6,7 @@
 
 mod boxes;
 mod file;
+mod fills;
 mod sheet;
 mod spread;
 mod table;
@@ -107,6 +108,9 @@ pub fn write_file(
     file::fill(&tables, room);
     Ok(length)
 }
+
+/// Plays fills over holdings; lists those that are refused.
+pub use fills::play as play_fills;
 
 /// The line `usm_check` prints for this file.
 pub fn file_line(file: &[u8]) -> String {

@@ -156,7 +156,7 @@ impl Leg {
 }
 
 /// A field with the two values 1 and 2.
-fn choice<T>(byte: u8, one: T, two: T) -> Option<T> {
+pub(super) fn choice<T>(byte: u8, one: T, two: T) -> Option<T> {
     match byte {
         1 => Some(one),
         2 => Some(two),

@@ -2,10 +2,12 @@
 
 mod claim;
 mod date;
+mod fill;
 mod leg;
 
 pub use claim::Claim;
 pub use date::is_expiry;
+pub use fill::{Action, Fill, ACTION_AT};
 pub use leg::{Leg, Line, Market, OptionType, Series, Side, Style};
 
 /// Bytes of a leg record and of a claim record.
@@ -14,6 +16,10 @@ pub const RECORD_BYTES: usize = 32;
 pub const MOST_LEGS: usize = 256;
 /// Claims have at most this many records; groups are numbered 1 to this.
 pub const MOST_CLAIMS: usize = 32;
+/// A day has at most this many fills.
+pub const MOST_FILLS: usize = 1_024;
+/// The number of the table of fills; the three of a sheet have theirs by [`Table`].
+pub const FILLS_TABLE: u64 = 4;
 /// No net, no margin and no accepted total passes this many mills.
 pub const GREATEST_AMOUNT: i64 = 2_560_000_000_000_000_000;
 /// Greatest unit size of a leg.

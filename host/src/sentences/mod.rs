@@ -4,6 +4,7 @@
 mod blocks;
 mod boxes;
 mod fields;
+mod fills;
 mod groups;
 mod rules;
 mod short;
@@ -14,6 +15,7 @@ use crate::refusal::Refusal;
 use crate::sheet::Sheet;
 
 pub use boxes::of_box;
+pub use fills::of_fills;
 pub(crate) use short::short;
 
 /// The sentence of a refusal that the check of this file, or its reader, answered.

@@ -2,14 +2,18 @@
 
 use crate::numbers::ordinal;
 use crate::reason::Reason;
+use crate::records::FILLS_TABLE;
 use crate::refusal::Refusal;
 
 pub fn short(refusal: &Refusal, reason: Reason) -> String {
     let (table, place) = (table_name(refusal.table), ordinal(refusal.place));
-    let record = format!("the {place} record of the {table}");
+    let record = match refusal.table {
+        FILLS_TABLE => format!("the {place} fill"),
+        _ => format!("the {place} record of the {table}"),
+    };
     match reason {
         Reason::WrongSize => String::from(
-            "wrong size: a table must be whole 32-byte records (at most 256 legs, 32 claims), \
+            "wrong size: a table must be whole 32-byte records (at most 256 legs, 32 claims, 1,024 fills), \
              a file 1 to 39 whole 512-byte blocks, and a written sheet needs a record",
         ),
         Reason::ChecksDiffer => format!("the {place} block is damaged: a check sum does not fit its bytes"),
@@ -29,7 +33,15 @@ pub fn short(refusal: &Refusal, reason: Reason) -> String {
         Reason::NoRoom if refusal.table == 0 => {
             format!("no room: {} bytes or entries are needed", refusal.place)
         }
+        Reason::NoRoom if refusal.table == FILLS_TABLE => {
+            format!("no room to list refused fills: {} entries are needed", refusal.place)
+        }
         Reason::NoRoom => format!("no room for the {table}: {} bytes are needed", refusal.place),
+        Reason::MoreClosedThanHeld => format!("{record} closes more contracts than are held"),
+        Reason::TooMuchHeld if refusal.table == FILLS_TABLE => {
+            format!("{record} is of a 257th line and side, or makes more than 100,000 contracts of one")
+        }
+        Reason::TooMuchHeld => format!("{record} makes more than 100,000 contracts of its line and side"),
         _ => of_group(refusal.place, reason),
     }
 }
@@ -58,6 +70,7 @@ fn table_name(table: u64) -> &'static str {
         1 => "holdings",
         2 => "placement",
         3 => "claims",
+        FILLS_TABLE => "fills",
         _ => "no table",
     }
 }

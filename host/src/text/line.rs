@@ -1,11 +1,11 @@
 //! One record as its words, for sentences: what [`super::show`] prints, without the padding.
 
-use super::names::{name_of, MARKETS, SIDES, STYLES, TYPES};
+use super::names::{name_of, ACTIONS, MARKETS, SIDES, STYLES, TYPES};
 use super::show::leg_words;
 use crate::fields::{
     get, Field, CONTRACTS, EXPIRY, GROUP, MARKET, SIDE, STRIKE, STYLE, TYPE, UNDERLYING, UNIT_SIZE,
 };
-use crate::records::{Leg, Market, Style, RECORD_BYTES};
+use crate::records::{Fill, Leg, Market, Style, RECORD_BYTES};
 
 /// A leg as it stands in the holdings.
 pub fn leg_text(leg: &Leg) -> String {
@@ -16,6 +16,11 @@ pub fn leg_text(leg: &Leg) -> String {
 /// A leg as it stands in the placement.
 pub fn placed_text(leg: &Leg) -> String {
     format!("{} {}", place_text(leg.group), leg_text(leg))
+}
+
+/// A fill as it stands among the fills.
+pub fn fill_text(fill: &Fill) -> String {
+    format!("{} {}", name_of(fill.action, ACTIONS), leg_text(&fill.leg))
 }
 
 /// Where a leg is placed.

@@ -1,6 +1,6 @@
 //! The words for the terms of a leg, for both ways.
 
-use crate::records::{Market, OptionType, Side, Style};
+use crate::records::{Action, Market, OptionType, Side, Style};
 
 /// The words for a term with two values.
 pub type Names<T> = [(&'static str, T); 2];
@@ -8,6 +8,7 @@ pub type Names<T> = [(&'static str, T); 2];
 pub const SIDES: Names<Side> = [("long", Side::Long), ("short", Side::Short)];
 pub const TYPES: Names<OptionType> = [("call", OptionType::Call), ("put", OptionType::Put)];
 pub const STYLES: Names<Style> = [("american", Style::American), ("european", Style::European)];
+pub const ACTIONS: Names<Action> = [("open", Action::Open), ("close", Action::Close)];
 pub const MARKETS: Names<Market> = [("listed", Market::Listed), ("otc", Market::Otc)];
 
 /// The word for one of the two values.

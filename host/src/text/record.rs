@@ -1,10 +1,11 @@
 //! The words of one record: a leg or a claim.
 
 use super::errors::TextError;
-use super::names::{MARKETS, SIDES, STYLES, TYPES};
+use super::names::{ACTIONS, MARKETS, SIDES, STYLES, TYPES};
 use super::words::{digits, Words};
 use crate::records::{
-    is_expiry, Claim, Leg, GREATEST_AMOUNT, GREATEST_STRIKE, GREATEST_UNIT_SIZE, MOST_CLAIMS, MOST_CONTRACTS,
+    is_expiry, Claim, Fill, Leg, GREATEST_AMOUNT, GREATEST_STRIKE, GREATEST_UNIT_SIZE, MOST_CLAIMS,
+    MOST_CONTRACTS,
 };
 
 pub fn holding(words: &mut Words) -> Result<Leg, TextError> {
@@ -15,6 +16,11 @@ pub fn placed_leg(words: &mut Words) -> Result<Leg, TextError> {
     let placed = words.choose([("group", true), ("unplaced", false)], ", or the section `claims`")?;
     let group = if placed { group(words)? } else { 0 };
     leg(group, "", words)
+}
+
+pub fn fill(words: &mut Words) -> Result<Fill, TextError> {
+    let action = words.choose(ACTIONS, "")?;
+    leg(0, "", words).map(|leg| Fill { action, leg })
 }
 
 pub fn claim(words: &mut Words) -> Result<Claim, TextError> {

@@ -16,10 +16,7 @@ use crate::sheet::Sheet;
 /// assert_eq!(text::parse(&text::show(&sheet)), Ok(sheet));
 /// ```
 pub fn show(sheet: &Sheet) -> String {
-    let mut text = String::from("holdings\n");
-    for leg in &sheet.holdings {
-        line(&mut text, leg_words(leg));
-    }
+    let mut text = show_holdings(&sheet.holdings);
     text.push_str("\nplacement\n");
     for leg in &sheet.placement {
         line(&mut text, format!("{:<8}  {}", place_text(leg.group), leg_words(leg)));
@@ -27,6 +24,15 @@ pub fn show(sheet: &Sheet) -> String {
     text.push_str("\nclaims\n");
     for claim in &sheet.claims {
         line(&mut text, format!("claim {} {}", claim.group, claim.margin));
+    }
+    text
+}
+
+/// Holdings by themselves, as the first section of a sheet.
+pub fn show_holdings(holdings: &[Leg]) -> String {
+    let mut text = String::from("holdings\n");
+    for leg in holdings {
+        line(&mut text, leg_words(leg));
     }
     text
 }

@@ -6,6 +6,7 @@
 mod bench;
 mod boxes;
 mod files;
+mod fills;
 mod limits;
 mod look_right;
 mod minis;

@@ -1,10 +1,14 @@
 //! The calls that the script's commands make, and what is printed of each answer.
 
 use usm::both::Calls;
+use usm::fields::{get, CONTRACTS, SIDE, STRIKE, TYPE};
 use usm::lent::Lent;
-use usm::{Refusal, Table, RECORD_BYTES};
+use usm::{PlayCounts, Refusal, Table, RECORD_BYTES};
 
 use crate::memory::Memory;
+
+/// So many rows of a result, and refused fills, are printed.
+const MOST_PRINTED: usize = 8;
 
 /// What a success says, or the refusal.
 fn told<T>(answer: Result<T, Refusal>, success: impl FnOnce(T) -> String) -> String {
@@ -94,6 +98,32 @@ pub fn read(calls: &Calls, memory: &Memory, rooms: [usize; 3]) -> String {
         let same = read == [&memory.holdings[..], &memory.placement, &memory.claims];
         let [holdings, placement, claims] = counts;
         format!("{holdings} {placement} {claims} {}", if same { "same" } else { "DIFFERENT" })
+    });
+    format!("{said} {kept}")
+}
+
+/// What comes out becomes the holdings, and no fills are left; a refusal leaves both. Of the rows the last
+/// are printed, as side, type, strike and contracts, and of the refused fills the first.
+pub fn play(calls: &Calls, memory: &mut Memory, rooms: [usize; 3]) -> String {
+    let (mut result, mut indices, mut numbers) =
+        (Lent::<u8>::of_length(rooms[0]), Lent::<u32>::of_length(rooms[1]), Lent::<u8>::of_length(rooms[2]));
+    let (start, fills) = (&memory.holdings, &memory.fills);
+    let answer = (calls.play_fills)(start, fills, result.slice(), indices.slice(), numbers.slice());
+    let PlayCounts { records, refused } = answer.unwrap_or(PlayCounts { records: 0, refused: 0 });
+    let bytes = records * RECORD_BYTES;
+    let kept =
+        kept(result.stayed_past(bytes) && indices.stayed_past(refused) && numbers.stayed_past(refused));
+    let said = told(answer, |_| {
+        memory.holdings = result.slice()[..bytes].to_vec();
+        memory.fills.clear();
+        let row = |record| {
+            let fields = [SIDE, TYPE, STRIKE, CONTRACTS].map(|field| get(&memory.holdings, record, field));
+            fields.map(|number| format!(" {number}")).concat() + ","
+        };
+        let rows: String = (records.saturating_sub(MOST_PRINTED)..records).map(row).collect();
+        let listed = indices.slice()[..refused].iter().zip(&numbers.slice()[..refused]).take(MOST_PRINTED);
+        let list: String = listed.map(|(index, number)| format!(" {index} {number},")).collect();
+        format!("{records}:{rows} refused {refused}:{list}")
     });
     format!("{said} {kept}")
 }

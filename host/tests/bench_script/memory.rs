@@ -1,11 +1,13 @@
-//! What the script's commands change: three tables and a file.
+//! What the script's commands change: three tables, a day's fills and a file.
 
 use usm::block::{seal, BLOCK_BYTES};
 use usm::fields::*;
 use usm::{Table, RECORD_BYTES};
 
-/// The fields of a leg and of a claim, in the order in which the script gives them.
+/// The fields of a leg, a fill and a claim, in the order in which the script gives them.
 const LEG: [Field; 10] = [GROUP, SIDE, TYPE, STYLE, MARKET, UNIT_SIZE, UNDERLYING, STRIKE, EXPIRY, CONTRACTS];
+const FILL: [Field; 11] =
+    [GROUP, SIDE, TYPE, STYLE, MARKET, UNIT_SIZE, UNDERLYING, STRIKE, EXPIRY, CONTRACTS, ACTION];
 const CLAIM: [Field; 2] = [GROUP, CLAIM_MARGIN];
 
 #[derive(Default)]
@@ -13,6 +15,7 @@ pub struct Memory {
     pub holdings: Vec<u8>,
     pub placement: Vec<u8>,
     pub claims: Vec<u8>,
+    pub fills: Vec<u8>,
     pub file: Vec<u8>,
 }
 
@@ -35,12 +38,21 @@ impl Memory {
         }
     }
 
-    /// A table, or the file.
+    /// A table, the fills, or the file.
     fn bytes(&mut self, letter: &str) -> Result<&mut Vec<u8>, String> {
         match (letter, table_named(letter)) {
             ("f", _) => Ok(&mut self.file),
+            ("d", _) => Ok(&mut self.fills),
             (_, Ok(which)) => Ok(self.table(which)),
-            _ => Err(format!("`{letter}` is none of h, p, c and f")),
+            _ => Err(format!("`{letter}` is none of h, p, c, d and f")),
+        }
+    }
+
+    /// A table of records.
+    fn records(&mut self, letter: &str) -> Result<&mut Vec<u8>, String> {
+        match letter {
+            "f" => Err(String::from("`f` is none of h, p, c and d")),
+            _ => self.bytes(letter),
         }
     }
 
@@ -55,8 +67,12 @@ impl Memory {
     }
 
     /// Appends a record of these numbers.
-    pub fn append(&mut self, which: Table, numbers: &[u64]) -> Result<(), String> {
-        let fields = if which == Table::Claims { &CLAIM[..] } else { &LEG[..] };
+    pub fn append(&mut self, letter: &str, numbers: &[u64]) -> Result<(), String> {
+        let fields = match letter {
+            "c" => &CLAIM[..],
+            "d" => &FILL[..],
+            _ => &LEG[..],
+        };
         if numbers.len() != fields.len() {
             return Err(format!("a record of {} numbers, not of {}", fields.len(), numbers.len()));
         }
@@ -67,14 +83,14 @@ impl Memory {
                 return Err(format!("{number} does not fit in {} bytes", field.1));
             }
         }
-        self.table(which).extend_from_slice(&record);
+        self.records(letter)?.extend_from_slice(&record);
         Ok(())
     }
 
     /// Repeats the last record until there are `count`, each with so much more strike and group
     /// than the one before.
-    pub fn fill(&mut self, which: Table, count: usize, strike: u64, group: u64) -> Result<(), String> {
-        let table = self.table(which);
+    pub fn fill(&mut self, letter: &str, count: usize, strike: u64, group: u64) -> Result<(), String> {
+        let table = self.records(letter)?;
         while records(table) < count {
             let last = records(table).checked_sub(1).ok_or("there is no record to repeat")?;
             table.extend_from_within(last * RECORD_BYTES..);

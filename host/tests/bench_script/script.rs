@@ -36,14 +36,12 @@ fn step(calls: &Calls, memory: &mut Memory, line: &str) -> Result<Option<String>
     let words: Vec<&str> = line.split_whitespace().collect();
     match words[..] {
         [] => {}
-        [table @ ("h" | "p" | "c"), ref record @ ..] => append(memory, table, record)?,
+        [table @ ("h" | "p" | "c" | "d"), ref record @ ..] => append(memory, table, record)?,
         ["clear"] => *memory = Memory::default(),
-        ["fill", table, count] => memory.fill(table_named(table)?, number(count)?, 0, 0)?,
-        ["fill", table, count, strike] => {
-            memory.fill(table_named(table)?, number(count)?, number(strike)?, 0)?
-        }
+        ["fill", table, count] => memory.fill(table, number(count)?, 0, 0)?,
+        ["fill", table, count, strike] => memory.fill(table, number(count)?, number(strike)?, 0)?,
         ["fill", table, count, strike, group] => {
-            memory.fill(table_named(table)?, number(count)?, number(strike)?, number(group)?)?
+            memory.fill(table, number(count)?, number(strike)?, number(group)?)?
         }
         ["byte", letter, at, value] => *memory.byte(letter, number(at)?)? = number(value)?,
         ["bump", letter, at, more] => {
@@ -75,6 +73,9 @@ fn ask(calls: &Calls, memory: &mut Memory, words: &[&str]) -> Result<String, Str
         ["file"] => answers::file(calls, memory),
         ["table"] => answers::table(calls, memory),
         ["write", room] => answers::write(calls, memory, number(room)?),
+        ["play", result, indices, numbers] => {
+            answers::play(calls, memory, [number(result)?, number(indices)?, number(numbers)?])
+        }
         ["read", h, p, c] => answers::read(calls, memory, [number(h)?, number(p)?, number(c)?]),
         _ => return Err(String::from("no such command")),
     };
@@ -83,7 +84,7 @@ fn ask(calls: &Calls, memory: &mut Memory, words: &[&str]) -> Result<String, Str
 
 fn append(memory: &mut Memory, table: &str, record: &[&str]) -> Result<(), String> {
     let numbers: Vec<u64> = record.iter().map(|word| number(word)).collect::<Result<_, _>>()?;
-    memory.append(table_named(table)?, &numbers)
+    memory.append(table, &numbers)
 }
 
 fn check(calls: &Calls, memory: &mut Memory, table: &str) -> Result<String, String> {

@@ -21,6 +21,8 @@ GROUP 2 500000
 65000 0
 70000 -500000
 read back 4 + 4 + 2 records, the same
+after the day 4 records, 1 fills refused
+fill 1: refusal 18
 usm_margin: refusal 6, table 2, place 3
 usm_check_sheet: refusal 16, table 3, place 2
 usm_write_file: refusal 1, table 0, place 0
@@ -33,6 +35,12 @@ no placement: 14 1 0 0
 no holdings: 14 2 0 0
 no file: 1 0 0 0
 no room: 17 0 1 0
+a day: 0 2 1 0
+  fill 1: 18
+no fills: 0 2 0 0
+no holdings: 0 1 2 0
+  fill 0: 18
+  fill 1: 18
 threads stay apart
 ";
 
@@ -43,7 +51,7 @@ fn the_c_example_prints_what_it_says() {
 
 #[test]
 fn empty_slices_may_be_null() {
-    let printed = "111 calls with empty slices, 0 wrong\n";
+    let printed = "128 calls with empty slices, 0 wrong\n";
     assert_prints(&run(&c_compiler(), C, "empty.c"), printed);
     if let Some(compiler) = cxx_compiler() {
         assert_prints(&run(&compiler, CXX, "empty.c"), printed);

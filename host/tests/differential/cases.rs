@@ -2,6 +2,8 @@
 
 use std::fmt;
 
+use usm::Reason;
+
 use crate::random::Random;
 
 const CASES: u64 = 100_000;
@@ -23,7 +25,7 @@ impl fmt::Display for Case {
 
 /// How often each refusal number, or 0 for success, was the answer.
 #[derive(Default)]
-pub struct Tally([u64; 18]);
+pub struct Tally([u64; Reason::ALL.len() + 1]);
 
 impl Tally {
     pub fn count(&mut self, answer: u64) {

@@ -5,7 +5,9 @@ use std::fmt::{Debug, Display};
 
 use usm::ffi::{self, Answer, LINE_BYTES, TABLE_BYTES};
 use usm::lent::Lent;
-use usm::{model, Refusal, Table, Tables, RECORD_BYTES};
+use usm::{model, PlayCounts, Refusal, Table, Tables, RECORD_BYTES};
+
+use crate::fills::Day;
 
 /// What no answer ever holds.
 const UNWRITTEN: u64 = 0xFEED_FACE_CAFE_BEEF;
@@ -129,6 +131,32 @@ pub fn read_file(case: &dyn Display, file: &[u8], rooms: [usize; 3]) -> u64 {
         answer,
         numbers(&expected, |counts| [counts.holdings as u64, counts.placement as u64, counts.claims as u64]),
     )
+}
+
+/// `listed` is told the number of each refused fill.
+pub fn play_fills(case: &dyn Display, day: &Day, listed: impl FnMut(u64)) -> u64 {
+    let Day { holdings, fills, result_room, list_rooms } = day;
+    let call = format!("usm_play_fills, rooms {result_room} and {list_rooms:?}");
+    let mut result = Lent::of_length(*result_room);
+    let (mut indices, mut numbers) = (Lent::of_length(list_rooms[0]), Lent::of_length(list_rooms[1]));
+    let (mut expected_result, mut expected_indices, mut expected_numbers) =
+        (result.clone(), indices.clone(), numbers.clone());
+    let answer = answer_of(|answer| {
+        ffi::play_fills(holdings, fills, result.slice(), indices.slice(), numbers.slice(), answer)
+    });
+    let expected = model::play_fills(
+        holdings,
+        fills,
+        expected_result.slice(),
+        expected_indices.slice(),
+        expected_numbers.slice(),
+    );
+    let PlayCounts { records, refused } = expected.unwrap_or(PlayCounts { records: 0, refused: 0 });
+    same_buffer(case, &call, &result, &expected_result, records * RECORD_BYTES);
+    same_buffer(case, &call, &indices, &expected_indices, refused);
+    same_buffer(case, &call, &numbers, &expected_numbers, refused);
+    expected_numbers.slice()[..refused].iter().copied().map(u64::from).for_each(listed);
+    same(case, &call, answer, self::numbers(&expected, |_| [records as u64, refused as u64, 0]))
 }
 
 pub fn file_line(case: &dyn Display, file: &[u8]) {

@@ -1,11 +1,15 @@
 //! What document 01 promises about margins, tried on the library's own answers, without
 //! the model.
 
-use std::collections::BTreeMap;
+use std::collections::{BTreeMap, BTreeSet};
 use std::fmt::Display;
 
-use usm::{Claim, Leg, OptionType, Sheet, Side, Style};
+use usm::fields::records;
+use usm::{
+    check_table, play_fills, Claim, Leg, OptionType, PlayCounts, Sheet, Side, Style, Table, RECORD_BYTES,
+};
 
+use crate::fills::Day;
 use crate::random::Random;
 
 /// d times a leg's value at the price n/d.
@@ -56,6 +60,23 @@ pub fn margins_are_reached(case: &dyn Display, sheet: &Sheet) {
             || worksheet.iter().any(|(_, net)| -net == *margin)
             || *margin == half_of_a_box(&legs, &worksheet);
         assert!(reached, "{case}: group {group}: {margin} is the loss at no strike of {worksheet:?}");
+    }
+}
+
+/// Holdings that come out are good holdings, one record for each line and side; played over by no fills they
+/// stay as they are.
+pub fn a_day_of_no_fills_changes_nothing(case: &dyn Display, day: &Day) {
+    let count = records(&day.fills);
+    let (mut result, mut indices, mut numbers) = (vec![0; 8192], vec![0; count], vec![0; count]);
+    if let Ok(counts) = play_fills(&day.holdings, &day.fills, &mut result, &mut indices, &mut numbers) {
+        result.truncate(counts.records * RECORD_BYTES);
+        assert_eq!(check_table(Table::Holdings, &result), Ok(counts.records), "{case}");
+        let lots: BTreeSet<&[u8]> = result.chunks_exact(RECORD_BYTES).map(|record| &record[..20]).collect();
+        assert_eq!(lots.len(), counts.records, "{case}: a line and side stands in one record");
+        let mut again = vec![0; 8192];
+        let no_fills = play_fills(&result, &[], &mut again, &mut [], &mut []);
+        assert_eq!(no_fills, Ok(PlayCounts { records: counts.records, refused: 0 }), "{case}");
+        assert!(again[..result.len()] == result, "{case}: no fills change the holdings");
     }
 }
 

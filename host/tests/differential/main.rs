@@ -11,6 +11,7 @@ mod cases;
 mod compare;
 mod faults;
 mod files;
+mod fills;
 mod laws;
 mod random;
 mod sheets;
@@ -29,7 +30,7 @@ const ALL_BUT_DAMAGE: [usize; 17] = [0, 1, 3, 4, 5, 6, 7, 8, 9, 10, 11, 12, 13, 
 
 #[test]
 fn valid_sheets() {
-    run("valid_sheets", 18, &[0, 6, 17], |case, random, tally| {
+    run("valid_sheets", 16, &[0, 6, 17], |case, random, tally| {
         let sheet = sheets::valid(random);
         let tables = sheet.tables();
         assert_eq!(compare::check_sheet(case, &tables), 0, "{case}: a sheet that should be accepted");
@@ -41,7 +42,7 @@ fn valid_sheets() {
 
 #[test]
 fn one_fault() {
-    run("one_fault", 22, &ALL_BUT_DAMAGE, |case, random, tally| {
+    run("one_fault", 20, &ALL_BUT_DAMAGE, |case, random, tally| {
         let mut tables = sheets::valid(random).tables();
         faults::one(random, &mut tables);
         try_tables(case, random, &tables, tally);
@@ -50,7 +51,7 @@ fn one_fault() {
 
 #[test]
 fn two_or_more_faults() {
-    run("two_or_more_faults", 18, &ALL_BUT_DAMAGE, |case, random, tally| {
+    run("two_or_more_faults", 16, &ALL_BUT_DAMAGE, |case, random, tally| {
         let mut tables = sheets::valid(random).tables();
         for _ in 0..2 + random.below(2) {
             faults::one(random, &mut tables);
@@ -78,7 +79,7 @@ fn tiny_worlds() {
 /// European long boxes and what is nearly one: only the margin tells them apart.
 #[test]
 fn near_boxes() {
-    run("near_boxes", 10, &[0, 8, 10, 11, 12, 13, 16], |case, random, tally| {
+    run("near_boxes", 8, &[0, 8, 10, 11, 12, 13, 16], |case, random, tally| {
         let sheet = boxes::sheet(random);
         if sheet.check().is_ok() {
             laws::margins_cover_every_price(case, random, &sheet);
@@ -88,10 +89,24 @@ fn near_boxes() {
     });
 }
 
+/// Days of fills. What is counted are the answers of the call and the numbers that it lists.
+#[test]
+fn days_of_fills() {
+    run("days_of_fills", 10, &[0, 1, 4, 17, 18, 19], |case, random, tally| {
+        let day = fills::day(random);
+        let answer = compare::play_fills(case, &day, |listed| tally.count(listed));
+        tally.count(answer);
+        laws::a_day_of_no_fills_changes_nothing(case, &day);
+        if case.index % 16 == 0 {
+            wrapper::plays_alike(case, &day);
+        }
+    });
+}
+
 #[test]
 fn damaged_files() {
     let wanted = [0, 1, 2, 3, 4, 5, 6, 10, 11, 12, 14, 17];
-    run("damaged_files", 19, &wanted, |case, random, tally| {
+    run("damaged_files", 17, &wanted, |case, random, tally| {
         let mut tables = sheets::valid(random).tables();
         if random.one_in(4) {
             faults::one(random, &mut tables);

@@ -4,7 +4,9 @@ use std::fmt::Display;
 
 use usm::block::LONGEST_FILE;
 use usm::both::{Calls, LIBRARY, MODEL};
-use usm::{Accepted, RecordCounts, Refusal, Table, Tables, MOST_CLAIMS};
+use usm::{Accepted, PlayCounts, RecordCounts, Refusal, Table, Tables, MOST_CLAIMS};
+
+use crate::fills::Day;
 
 /// The answers of every call, each with its lent buffers.
 #[derive(Debug, PartialEq)]
@@ -39,6 +41,19 @@ fn answers(calls: Calls, tables: &Tables, file: &[u8], g: u64) -> Answers {
         file_line: (calls.file_line)(file),
         file_table: (calls.file_table)(file),
     }
+}
+
+/// What fills make of holdings, with the lent buffers.
+type Played = (Result<PlayCounts, Refusal>, Vec<u8>, Vec<u32>, Vec<u8>);
+
+pub fn plays_alike(case: &dyn Display, day: &Day) {
+    let played = |calls: Calls| -> Played {
+        let mut result = vec![1; day.result_room];
+        let (mut indices, mut numbers) = (vec![1; day.list_rooms[0]], vec![1; day.list_rooms[1]]);
+        let counts = (calls.play_fills)(&day.holdings, &day.fills, &mut result, &mut indices, &mut numbers);
+        (counts, result, indices, numbers)
+    };
+    assert!(played(LIBRARY) == played(MODEL), "{case}: wrapper and model differ in a day of fills");
 }
 
 pub fn answers_alike(case: &dyn Display, tables: &Tables, file: &[u8], g: u64) {

@@ -5,6 +5,7 @@
 
 mod fields;
 mod files;
+mod fills;
 mod sheets;
 
 use std::collections::BTreeSet;
@@ -23,11 +24,11 @@ fn entry(name: &str, refusal: &Refusal, sentence: &str) -> String {
 
 /// The sentences of refusals by themselves, at places that count from 0 and groups that count from 1.
 fn short() -> String {
-    let tables: [&[u64]; 17] = [
+    let tables: [&[u64]; 19] = [
         &[0],
         &[0],
         &[0],
-        &[1, 2, 3],
+        &[1, 2, 3, 4],
         &[3, 2],
         &[2],
         &[2],
@@ -40,9 +41,11 @@ fn short() -> String {
         &[1, 2],
         &[2],
         &[3],
-        &[0, 1, 2, 3],
+        &[0, 1, 2, 3, 4],
+        &[4],
+        &[1, 4],
     ];
-    let refusals = (1..=17).zip(tables).flat_map(|(number, tables)| {
+    let refusals = (1..=19).zip(tables).flat_map(|(number, tables)| {
         tables.iter().map(move |table| Refusal::new(number, *table, if number == 1 { 0 } else { 2 }))
     });
     refusals.map(|refusal| entry("by itself", &refusal, &refusal.to_string())).collect()
@@ -72,7 +75,7 @@ fn cases() -> Vec<Case> {
 
 #[test]
 fn every_sentence_is_that_of_the_table() {
-    let found = format!("{}\n{}\n{}", short(), of_files(&cases()), of_groups());
+    let found = format!("{}\n{}\n{}\n{}", short(), of_files(&cases()), of_groups(), fills::sentences());
     let table = Path::new(env!("CARGO_MANIFEST_DIR")).join("tests/sentences/sentences.txt");
     if std::env::var_os("USM_WRITE_SENTENCES").is_some() {
         fs::write(&table, &found).expect("the table is written");
@@ -88,7 +91,8 @@ fn every_sentence_is_that_of_the_table() {
 fn every_reason_that_a_file_can_have_is_in_the_table() {
     let numbers: BTreeSet<u64> =
         cases().iter().map(|(name, file)| check_file(file).expect_err(name).number).collect();
-    let reasons = Reason::ALL.into_iter().filter(|reason| *reason != Reason::NoRoom);
+    let of_other_calls = [Reason::NoRoom, Reason::MoreClosedThanHeld, Reason::TooMuchHeld];
+    let reasons = Reason::ALL.into_iter().filter(|reason| !of_other_calls.contains(reason));
     assert_eq!(numbers, reasons.map(Reason::number).collect());
 }
 
@@ -96,8 +100,8 @@ fn every_reason_that_a_file_can_have_is_in_the_table() {
 fn a_refusal_of_something_else_has_its_own_sentence() {
     // Nothing of what these name is in the file, or they are none of a file's refusals.
     let file = sheets::accepted().to_file().expect("a file");
-    for number in 0..=18 {
-        for table in 0..=4 {
+    for number in 0..=20 {
+        for table in 0..=5 {
             for place in [0, 1, 39, u64::MAX] {
                 let refusal = Refusal::new(number, table, place);
                 assert!(!sentences::of_file(&file, &refusal).is_empty());

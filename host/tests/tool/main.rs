@@ -10,6 +10,7 @@ mod full;
 mod groups;
 mod json;
 mod make;
+mod play;
 mod script;
 
 use std::ffi::OsStr;

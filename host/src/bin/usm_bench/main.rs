@@ -8,6 +8,7 @@
 #![forbid(unsafe_code)]
 
 mod crafted;
+mod fills;
 mod inputs;
 mod rows;
 mod times;

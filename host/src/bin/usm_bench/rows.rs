@@ -2,9 +2,13 @@
 
 use usm::block::{BLOCK_BYTES, LONGEST_FILE};
 use usm::both::{Calls, LIBRARY, MODEL};
-use usm::{leg_table, Accepted, Leg, Refusal, Sheet, Table, Tables, MOST_CLAIMS, MOST_LEGS};
+use usm::{
+    fill_table, leg_table, Accepted, Fill, Leg, Refusal, Sheet, Table, Tables, MOST_CLAIMS, MOST_FILLS,
+    MOST_LEGS,
+};
 
 use crate::crafted;
+use crate::fills::{crowded, day, held};
 use crate::inputs::{long_box, sheet, typical_sheets};
 
 pub struct Row {
@@ -98,6 +102,18 @@ fn write_file(name: &'static str, sheet: &Sheet) -> Row {
     })
 }
 
+fn play_fills(name: &'static str, holdings: &[Leg], fills: &[Fill]) -> Row {
+    row(name, |calls| {
+        let (holdings, fills) = (leg_table(holdings), fill_table(fills));
+        let mut result = vec![0; Table::Holdings.most_bytes()];
+        let (mut indices, mut numbers) = ([0; MOST_FILLS], [0; MOST_FILLS]);
+        move || {
+            let counts = (calls.play_fills)(&holdings, &fills, &mut result, &mut indices, &mut numbers);
+            folded(counts, |counts| (counts.records << 16 | counts.refused) as u64)
+        }
+    })
+}
+
 fn file_of(sheet: &Sheet) -> Vec<u8> {
     sheet.to_file().expect("a sheet to be timed can be written")
 }
@@ -166,6 +182,8 @@ fn ordinary() -> Vec<Row> {
         file_table("table of one group of 256 strikes", &file_of(&wide)),
         read_file("read file, 39 blocks", &file_of(&full)),
         write_file("write file, 39 blocks", &full),
+        play_fills("play 60 fills over 60 records", &held(60), &day(60, 60)),
+        play_fills("play 1,024 fills over 256 records", &held(MOST_LEGS), &day(MOST_LEGS, MOST_FILLS)),
     ]
 }
 
@@ -193,5 +211,6 @@ fn made_to_be_slow() -> Vec<Row> {
         check_sheet("crafted: 512 lines, unit sizes alone (14)", &crafted::sizes_uneven().tables()),
         check_sheet("crafted: one strike, 256 legs", &crafted::one_strike().tables()),
         check_sheet("crafted: the worst found", &crafted::worst_found().tables()),
+        play_fills("crafted: 1,024 fills, first rows leave", &held(MOST_LEGS), &crowded()),
     ]
 }

@@ -1,19 +1,21 @@
 //! Writes the samples: small sheet files named after what they show, each with the text it
-//! is made from where text can make it.
+//! is made from where text can make it; and a day's fills, as texts.
 
 #![forbid(unsafe_code)]
 
 mod accepted;
 mod changes;
+mod fills;
 mod list;
 mod refused;
 
 use std::ffi::OsString;
+use std::fs;
 use std::path::Path;
 use std::process::ExitCode;
 
 use list::{samples, Making};
-use usm::program::{self, write};
+use usm::program::{self, shown, write};
 use usm::text;
 
 const USAGE: &str = "\
@@ -44,5 +46,15 @@ fn write_all(folder: &Path, force: bool) -> Result<ExitCode, String> {
         }
         write(&folder.join(sample.name).with_extension("usm"), &file, force)?;
     }
+    write_fills(&folder.join("fills"), force)?;
     Ok(ExitCode::SUCCESS)
+}
+
+/// A day's fills, in a folder of their own.
+fn write_fills(folder: &Path, force: bool) -> Result<(), String> {
+    fs::create_dir_all(folder).map_err(|error| format!("{}: {error}", shown(folder)))?;
+    for (name, text) in fills::texts()? {
+        write(&folder.join(name), text.as_bytes(), force)?;
+    }
+    Ok(())
 }

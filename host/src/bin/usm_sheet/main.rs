@@ -10,6 +10,7 @@ mod input;
 mod json;
 mod make;
 mod output;
+mod play;
 mod plot;
 
 use std::ffi::OsString;
@@ -26,15 +27,17 @@ usage:
   sheet check FILE.. [--json]     print the verdict on sheet files
   sheet margins FILE              print the margin of each group
   sheet worksheet FILE G          print the net of group G at each of its strikes
-  sheet help                      tell about the text format too (-h, --help)
+  sheet play HOLDINGS FILLS OUT   play a text of fills over a text of holdings, and write what
+                                  is held then as the text OUT [--force]
+  sheet help                      tell about the text formats too (-h, --help)
   sheet --version                 print the version
 
-`-` stands for standard input (TEXT, FILE) or standard output (OUT); words behind `--` are no
+`-` stands for standard input or, for OUT, standard output; words behind `--` are no
 options. An OUT that is there already is left alone unless --force is given. `check` prints
-the line of each file on standard output, behind its name if there are several, and sentences
-for people on standard error; with --json it prints one object a file instead. The exit
-status is 0 if all is well; 1 if `check` refuses a file, or a group of `margins` or
-`worksheet` is no spread; 2 if something could not be done.
+the line of each file on standard output, behind its name if there are several, and
+sentences for people on standard error; with --json it prints one object a file instead. The
+exit status is 0 if all is well; 1 if `check` refuses a file, `play` a fill, or a group of
+`margins` or `worksheet` is no spread; 2 if something could not be done.
 ";
 
 fn main() -> ExitCode {
@@ -44,7 +47,7 @@ fn main() -> ExitCode {
 fn run(words: Vec<OsString>) -> Result<ExitCode, String> {
     let arguments = Arguments::of(words).map_err(not_understood)?;
     if arguments.help {
-        return print(&format!("{USAGE}\n{}", text::FORMAT));
+        return help();
     }
     if arguments.version {
         return print(concat!("sheet ", env!("CARGO_PKG_VERSION"), "\n"));
@@ -57,9 +60,14 @@ fn run(words: Vec<OsString>) -> Result<ExitCode, String> {
         ("check", [_, ..], false, json) => check::check(files, json),
         ("margins", [file], false, false) => groups::margins(file),
         ("worksheet", [file, group], false, false) => groups::worksheet(file, group),
-        ("help", [], false, false) => print(&format!("{USAGE}\n{}", text::FORMAT)),
+        ("play", [holdings, fills, out], force, false) => play::play(holdings, fills, out, force),
+        ("help", [], false, false) => help(),
         _ => Err(not_understood(String::from("the command was not understood"))),
     }
+}
+
+fn help() -> Result<ExitCode, String> {
+    print(&format!("{USAGE}\n{}\n{}", text::FORMAT, text::FILLS_FORMAT))
 }
 
 fn not_understood(what: String) -> String {

@@ -5,6 +5,7 @@ use std::fs;
 use std::process::ExitCode;
 
 use usm::program::{self, shown};
+use usm::text::TextErrors;
 use usm::{sentences, text};
 
 use crate::input::{read_into, sheet};
@@ -18,29 +19,36 @@ pub fn make(text_name: &OsStr, out_name: &OsStr, force: bool) -> Result<ExitCode
     if same_file(text_name, out_name) {
         return Err(named(String::from("is the text; the sheet file needs another name")));
     }
-    let text = read_text(text_name)?;
-    let sheet = text::parse(&text).map_err(|errors| {
-        errors.to_string().lines().map(|error| named(String::from(error)) + "\n").collect::<String>()
-    })?;
+    let sheet = text::parse(&read_text(text_name)?).map_err(|errors| told(text_name, &errors))?;
     let file = sheet.to_file().map_err(|refusal| match refusal.number {
         1 => named(String::from("there is no record in it, and an empty sheet has no file")),
         number => named(format!("refusal {number}: {}", sentences::of_sheet(&sheet, &refusal))),
     })?;
-    match out_name.to_str() {
-        Some("-") => print(&file),
-        _ => program::write(out_name.as_ref(), &file, force).map(|()| ExitCode::SUCCESS),
+    write(out_name, &file, force).map(|()| ExitCode::SUCCESS)
+}
+
+/// The errors of a text, each behind its name.
+pub fn told(name: &OsStr, errors: &TextErrors) -> String {
+    errors.to_string().lines().map(|error| format!("{}: {error}\n", shown(name))).collect()
+}
+
+/// Writes what was made to a file or to standard output.
+pub fn write(name: &OsStr, bytes: &[u8], force: bool) -> Result<(), String> {
+    match name.to_str() {
+        Some("-") => print(bytes),
+        _ => program::write(name.as_ref(), bytes, force),
     }
 }
 
 /// Whether the two are names of one file that is there.
-fn same_file(text_name: &OsStr, out_name: &OsStr) -> bool {
+pub fn same_file(text_name: &OsStr, out_name: &OsStr) -> bool {
     match (fs::canonicalize(text_name), fs::canonicalize(out_name)) {
         (Ok(text), Ok(out)) => text_name != "-" && out_name != "-" && text == out && text.is_file(),
         _ => false,
     }
 }
 
-fn read_text(name: &OsStr) -> Result<String, String> {
+pub fn read_text(name: &OsStr) -> Result<String, String> {
     let mut bytes = Vec::new();
     read_into(&mut bytes, name, LONGEST_TEXT)?;
     if bytes.len() > LONGEST_TEXT {
@@ -54,12 +62,11 @@ fn read_text(name: &OsStr) -> Result<String, String> {
 }
 
 pub fn show(name: &OsStr) -> Result<ExitCode, String> {
-    print(text::show(&sheet(name)?).as_bytes())
+    print(text::show(&sheet(name)?).as_bytes()).map(|()| ExitCode::SUCCESS)
 }
 
-fn print(bytes: &[u8]) -> Result<ExitCode, String> {
+fn print(bytes: &[u8]) -> Result<(), String> {
     let mut output = Output::new();
     output.print(bytes)?;
-    output.end()?;
-    Ok(ExitCode::SUCCESS)
+    output.end()
 }

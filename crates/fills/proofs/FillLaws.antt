@@ -1,0 +1,104 @@
+-- A fill's action and the record that it is otherwise, as code takes them.
+use Prim.Native.Nat.{ℕ, _+_, _*_, _/_, _≤_, _<_}
+use mathlib.Core.Path.{_≡_, ap}
+use mathlib.Core.Bool.{Bool, true, false, cond, _&&_, and-false, and-eq-true-iff}
+use mathlib.Core.List.{List}
+use native.Mathlib.Decide.{decLe, ℕ-discrete}
+use native.Mathlib.Omega.{arith}
+use lib.ListN.{length, getD, set, drop, length-take, length-drop}
+use lib.Dec.{eqb}
+use lib.Seq.{getD-drop, getD-take, take-all}
+use borrow.Author.Tests.{eqb-true, lt-leb}
+use Rattle.records.specs.Bytes.{leAt}
+use Rattle.records.specs.Chunks.{chunkAt}
+use Rattle.records.specs.Legs.{legOf, inRange, goodLeg}
+use Rattle.records.specs.Tables.{goodRecord}
+use Rattle.records.specs.Within.{within}
+use Rattle.records.specs.Written.{putAt}
+use Rattle.records.specs.declared.legs.Leg.{Leg}
+use Rattle.records.specs.declared.tables.Kind.the-variants.{Holdings}
+use Rattle.fills.specs.Fills.{actionAt, actionOf, plainOf, fillLeg, goodFill}
+use Rattle.fills.specs.Rows.{heldOf, opened, closed}
+use Rattle.fills.specs.Played.{openNumber, closeNumber, fillNumber, numberOver, rowsAfter}
+use Rattle.fills.proofs.PartLaws.{put-whole, put-one}
+
+pub action-is : (xs : List ℕ) (i : ℕ) → getD xs (32 * i + actionAt) 0 ≡ actionOf (chunkAt 32 xs i)
+unfolding leAt
+action-is xs i = rw (getD-take 32 (drop (32 * i) xs) actionAt 0 (omega arith), getD-drop (32 * i) xs actionAt 0) (omega arith)
+
+-- a part copied over as many bytes, with the action's byte set to 0
+pub plain-is : (d part out : List ℕ) → length d ≡ length part → actionAt < length part → out ≡ putAt d 0 part → set out actionAt 0 ≡ plainOf part
+unfolding plainOf
+plain-is d part out e h o =
+    let w : putAt d 0 part ≡ part = put-whole d part (omega arith) in
+    rw (o, w) (put-one part actionAt 0 h)
+
+-- a record has 32 bytes
+pub record-size : (xs : List ℕ) (i : ℕ) → i < length xs / 32 → length (chunkAt 32 xs i) ≡ 32
+record-size xs i h = simp (length-take, length-drop) (omega arith)
+
+-- ---- a good record
+
+pub good-range : (xs : List ℕ) → goodRecord Holdings xs ≡ true → inRange 0 (legOf xs) ≡ true
+unfolding goodLeg
+good-range xs e =
+    let p = and-eq-true-iff (eqb (length xs) 32) _ .0 e in
+    and-eq-true-iff (inRange 0 (legOf xs)) _ .0 (p .1) .0
+
+pub good-size : (xs : List ℕ) → goodRecord Holdings xs ≡ true → length xs ≡ 32
+unfolding goodLeg
+good-size xs e = eqb-true (length xs) 32 (and-eq-true-iff (eqb (length xs) 32) _ .0 e .0)
+
+-- a record of its own as the first of a table
+pub first-record : (xs : List ℕ) → length xs ≡ 32 → chunkAt 32 xs 0 ≡ xs
+first-record xs e = take-all 32 xs (omega arith)
+
+-- ---- a fill by its action
+
+-- neither 1 nor 2
+neither : (n : ℕ) → (n ≡ 1 → ⊥) → (n ≡ 2 → ⊥) → within 1 2 n ≡ false
+neither n a b =
+    elim (decLe 1 n) [
+      | no k ↦ rw (lt-leb 1 n (omega arith))
+      | yes j ↦ rw (lt-leb n 2 (above n a b j), and-false)
+    ]
+  where
+    above : (n : ℕ) → (n ≡ 1 → ⊥) → (n ≡ 2 → ⊥) → 1 ≤ n → 2 < n
+    above n a b j =
+        elim (ℕ-discrete n 1) [
+          | yes p ↦ absurd (a p)
+          | no p ↦ elim (ℕ-discrete n 2) [
+            | yes q ↦ absurd (b q)
+            | no q ↦ omega arith
+          ]
+        ]
+
+module _ (xs : List ℕ) (rows : List Leg) where
+  abbrev Said : ℕ → List Leg → Type 0
+  Said number after = (numberOver rows xs ≡ number) × (rowsAfter rows xs ≡ cond (eqb number 0) after rows)
+
+  said : (number : ℕ) (after : List Leg) → numberOver rows xs ≡ number → cond (eqb (actionOf xs) 1) (opened (fillLeg xs) rows) (closed (fillLeg xs) rows) ≡ after → Said number after
+  unfolding rowsAfter
+  said number after e f = (e, rw (e, f))
+
+  pub open-fill : goodRecord Holdings (plainOf xs) ≡ true → actionOf xs ≡ 1
+      → Said (openNumber (heldOf (fillLeg xs) rows) (length rows) (fillLeg xs .contracts .0)) (opened (fillLeg xs) rows)
+  unfolding numberOver fillNumber goodFill
+  open-fill g a = said _ _ (rw (a, g)) (rw a)
+
+  pub close-fill : goodRecord Holdings (plainOf xs) ≡ true → actionOf xs ≡ 2
+      → Said (closeNumber (heldOf (fillLeg xs) rows) (fillLeg xs .contracts .0)) (closed (fillLeg xs) rows)
+  unfolding numberOver fillNumber goodFill
+  close-fill g a = said _ _ (rw (a, g)) (rw a)
+
+  bad-fill : goodFill xs ≡ false → (numberOver rows xs ≡ 4) × (rowsAfter rows xs ≡ rows)
+  unfolding numberOver fillNumber rowsAfter
+  bad-fill b = (rw b, rw b)
+
+  pub bad-record : goodRecord Holdings (plainOf xs) ≡ false → (numberOver rows xs ≡ 4) × (rowsAfter rows xs ≡ rows)
+  unfolding goodFill
+  bad-record b = bad-fill (rw (b, and-false))
+
+  pub bad-action : (actionOf xs ≡ 1 → ⊥) → (actionOf xs ≡ 2 → ⊥) → (numberOver rows xs ≡ 4) × (rowsAfter rows xs ≡ rows)
+  unfolding goodFill
+  bad-action a b = bad-fill (ap (λ (t : Bool). t && goodRecord Holdings (plainOf xs)) (neither (actionOf xs) a b))

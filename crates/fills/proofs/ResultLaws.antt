@@ -1,0 +1,337 @@
+-- The result of a call that is not refused is a table of holdings, in which each line and side stands once.
+use Prim.Native.Nat.{ℕ, suc, _+_, _-_, _*_, _/_, _%_, _≤_, _<_}
+use mathlib.Core.Path.{_≡_, refl, sym, ap, _∙_}
+use mathlib.Core.Bool.{Bool, true, false, cond, _&&_}
+use mathlib.Core.List.{List, [], _∷_, _++_, append-nil}
+use native.Mathlib.Decide.{decLe}
+use native.Mathlib.Omega.{arith}
+use lib.Dec.{eqb, leb}
+use lib.ListN.{length, take, length-append}
+use borrow.Author.Tests.{leb-true, le-leb, eq-eqb, eqb-true}
+use Rattle.records.specs.Chunks.{chunks, recordsOf}
+use Rattle.records.specs.Legs.{legBytes, legOf, inRange}
+use Rattle.records.specs.Lines.{sameLineSide, contractsOf}
+use Rattle.records.specs.Lists.{All}
+use Rattle.records.specs.Order.{Check, firstOf}
+use Rattle.records.specs.Tables.{goodRecord, tableChecks, fieldChecks, legsOf, countedOf, wholeTable}
+use Rattle.records.specs.Written.{putAt}
+use Rattle.records.specs.declared.legs.Leg.{Leg}
+use Rattle.records.specs.declared.refusals.Fault.{Fault}
+use Rattle.records.specs.declared.refusals.Fault.the-variants.{Nothing, Is}
+use Rattle.records.specs.declared.tables.Kind.the-variants.{Holdings}
+use Rattle.records.specs.declared.tables.Counted.the-variants.{Records}
+use Rattle.records.proofs.LegLaws.{length-leg-bytes, leg-good}
+use Rattle.records.proofs.LineLaws.{line-sym}
+use Rattle.records.proofs.ListLaws.{map-all}
+use Rattle.records.proofs.PassLaws.{Pass, clear, unclear, pass-left, pass-right, pass-both, each-pass}
+use Rattle.records.proofs.PutLaws.{put-front, put-past}
+use Rattle.records.proofs.TableLaws.{ranges, fields-good, length-legs}
+use Rattle.records.proofs.ChunkLaws.{records-append}
+use Rattle.fills.specs.Fills.{isOpen, fillLeg}
+use Rattle.fills.specs.Rows.{heldOf, more, fewer, opened, closed, mergedInto, merged, bytesOf}
+use Rattle.fills.specs.Played.{openNumber, numberOver, rowsAfter, playedOver, refusedOver}
+use Rattle.fills.specs.Calls.{tableChecks as playTableChecks, askPast, roomChecks, playChecks, rowsPlayed, refusedIn, answered, playOf, left, indicesOf, numbersOf}
+use Rattle.fills.specs.Ledger.{Apart, Filled}
+use Rattle.fills.specs.Demands.{CallStands, ResultSound, ResultStays, Leaves, LeftBy, PlayLeaves}
+use Rattle.fills.specs.declared.calls.Played.{Played}
+use Rattle.fills.specs.declared.calls.Played.the-variants.{Done, Refused}
+use Rattle.fills.proofs.BalanceLaws.{contracts-apart}
+use Rattle.fills.proofs.FillLaws.{good-range}
+use Rattle.fills.proofs.LedgerLaws.{fill-range, fill-open, fill-close, ledger-stands, ledger-refuses}
+use Rattle.fills.proofs.MergeLaws.{held-merged, merged-snoc, length-opened}
+use Rattle.fills.proofs.PlayLaws.{Tabled, tables-clear}
+use Rattle.fills.proofs.RowLaws.{all-opened, all-closed, left-some, length-opened-is}
+use Rattle.fills.proofs.StandLaws.{length-bytes, one-record, legs-back, with-range}
+
+-- rows that make a table of holdings
+record Fine (rows : List Leg) : Type 0 where
+  pub few : length rows ≤ 256
+  pub good : All (λ l. inRange 0 l ≡ true) rows
+
+filled : (rows : List Leg) → All (λ l. inRange 0 l ≡ true) rows → Filled rows
+filled [] a = tt
+filled (x ∷ xs) a = (ranges 0 x (a .0) .contracts .0, filled xs (a .1))
+
+-- ---- they stay so
+
+good-opened : (x : Leg) (rows : List Leg) → inRange 0 x ≡ true → heldOf x rows + x .contracts .0 ≤ 100000
+    → All (λ l. inRange 0 l ≡ true) rows → All (λ l. inRange 0 l ≡ true) (opened x rows)
+good-opened x rows g h a =
+    all-opened (λ l. inRange 0 l ≡ true) x rows
+    (λ y k e. with-range y (y .contracts .0 + x .contracts .0) k (omega (arith, ranges 0 x g .contracts .0)) (omega arith)) g a
+
+good-closed : (x : Leg) (rows : List Leg) → x .contracts .0 ≤ heldOf x rows
+    → All (λ l. inRange 0 l ≡ true) rows → All (λ l. inRange 0 l ≡ true) (closed x rows)
+good-closed x rows h a =
+    all-closed (λ l. inRange 0 l ≡ true) x rows
+    (λ y k e n. with-range y (y .contracts .0 - x .contracts .0) k (left-some (y .contracts .0) (x .contracts .0) (omega arith) n) (omega (arith, ranges 0 y k .contracts .1))) a
+
+length-closed : (x : Leg) (rows : List Leg) → length (closed x rows) ≤ length rows
+unfolding closed
+length-closed x [] = omega arith
+length-closed x (y ∷ ys) = go (sameLineSide x y) (eqb (y .contracts .0) (x .contracts .0)) (length-closed x ys)
+  where
+    go : (b s : Bool) → length (closed x ys) ≤ length ys → length (cond b (cond s [] (fewer y x ∷ []) ++ ys) (y ∷ closed x ys)) ≤ suc (length ys)
+    go true true h = omega arith
+    go true false h = omega arith
+    go false s h = omega arith
+
+-- what an opening that is not refused says
+opens-fits : (held lines n : ℕ) → openNumber held lines n ≡ 0 → held + n ≤ 100000
+opens-fits held lines n e = go (eqb held 0 && leb 256 lines) e
+  where
+    go : (b : Bool) → _≡_ {A = ℕ} (cond b 19 (cond (leb (held + n) 100000) 0 19)) 0 → held + n ≤ 100000
+    go true q = absurd (omega (arith, q))
+    go false q = fits (leb (held + n) 100000) refl q
+      where
+        fits : (b : Bool) → leb (held + n) 100000 ≡ b → _≡_ {A = ℕ} (cond b 0 19) 0 → held + n ≤ 100000
+        fits true k q = leb-true (held + n) 100000 k
+        fits false k q = absurd (omega (arith, q))
+
+opens-room : (held lines n : ℕ) → openNumber held lines n ≡ 0 → held ≡ 0 → lines < 256
+opens-room held lines n e z =
+    elim (decLe 256 lines) [
+      | yes h ↦ let q : openNumber held lines n ≡ 19 = rw (eq-eqb held 0 z, le-leb 256 lines h) in absurd (omega (arith, e, q))
+      | no h ↦ omega arith
+    ]
+
+fine-opened : (x : Leg) (rows : List Leg) → inRange 0 x ≡ true → openNumber (heldOf x rows) (length rows) (x .contracts .0) ≡ 0 → Fine rows → Fine (opened x rows)
+fine-opened x rows g e f =
+    record {
+      few = go (eqb (heldOf x rows) 0) refl (length-opened-is x rows (filled rows (f .good)));
+      good = good-opened x rows g (opens-fits (heldOf x rows) (length rows) (x .contracts .0) e) (f .good);
+    }
+  where
+    go : (b : Bool) → eqb (heldOf x rows) 0 ≡ b → length (opened x rows) ≡ length rows + (1 - cond b 0 1) → length (opened x rows) ≤ 256
+    go true k o = omega (arith, o, opens-room (heldOf x rows) (length rows) (x .contracts .0) e (eqb-true (heldOf x rows) 0 k))
+    go false k o = omega (arith, o, f .few)
+
+fine-closed : (x : Leg) (rows : List Leg) → x .contracts .0 ≤ heldOf x rows → Fine rows → Fine (closed x rows)
+fine-closed x rows h f = record { few = omega (arith, length-closed x rows, f .few); good = good-closed x rows h (f .good) }
+
+fine-after : (rows : List Leg) (xs : List ℕ) → Fine rows → Fine (rowsAfter rows xs)
+unfolding rowsAfter numberOver
+fine-after rows xs f = go (eqb (numberOver rows xs) 0) refl (isOpen xs) refl
+  where
+    go : (b : Bool) → eqb (numberOver rows xs) 0 ≡ b → (o : Bool) → isOpen xs ≡ o
+        → Fine (cond b (cond o (opened (fillLeg xs) rows) (closed (fillLeg xs) rows)) rows)
+    go true e true q =
+        let z = eqb-true (numberOver rows xs) 0 e in
+        let held = heldOf (fillLeg xs) rows in
+        fine-opened (fillLeg xs) rows (fill-range held (length rows) xs z) (fill-open held (length rows) xs z q) f
+    go true e false q =
+        let z = eqb-true (numberOver rows xs) 0 e in
+        fine-closed (fillLeg xs) rows (fill-close (heldOf (fillLeg xs) rows) (length rows) xs z q) f
+    go false e o q = f
+
+fine-over : (rows : List Leg) (fills : List (List ℕ)) → Fine rows → Fine (playedOver rows fills)
+unfolding playedOver
+fine-over rows [] f = f
+fine-over rows (x ∷ xs) f = fine-over (rowsAfter rows x) xs (fine-after rows x f)
+
+-- ---- the starting rows
+
+append-one : (a : List Leg) (b : Leg) (c : List Leg) → (a ++ b ∷ []) ++ c ≡ a ++ b ∷ c
+append-one [] b c = refl
+append-one (y ∷ a) b c = ap (λ (t : List Leg). y ∷ t) (append-one a b c)
+
+-- the records before, merged: in range, and no more than they were
+record Started (before : List Leg) : Type 0 where
+  pub good : All (λ l. inRange 0 l ≡ true) (merged before)
+  pub few : length (merged before) ≤ length before
+
+started : (before rest : List Leg) (i : ℕ) → Started before → Pass (askPast before i rest) → All (λ l. inRange 0 l ≡ true) rest → Started (before ++ rest)
+unfolding askPast
+started before [] i s p a = rw (append-nil before) s
+started before (x ∷ xs) i s p a =
+    let h = leb-true (contractsOf x before + x .contracts .0) 100000 (p .0) in
+    let g = good-opened x (merged before) (a .0) (omega (arith, held-merged x before)) (s .good) in
+    let l : length (before ++ x ∷ []) ≡ length before + 1 = length-append before (x ∷ []) in
+    let next : Started (before ++ x ∷ []) =
+    record {
+      good = rw (merged-snoc before x) g;
+      few = rw (merged-snoc before x) (omega (arith, length-opened x (merged before), s .few));
+    } in
+    rw (← append-one) (started (before ++ x ∷ []) xs (i + 1) next (p .1) (a .1))
+
+-- ---- a call that is not refused
+
+record Passed (h f : List ℕ) : Type 0 where
+  pub tabled : Tabled h f
+  pub lots : Pass (askPast [] 0 (legsOf h))
+
+passed : (h f : List ℕ) (result indices numbers n k : ℕ) → playOf h f result indices numbers ≡ Done n k → Passed h f × (n ≡ length (rowsPlayed h f))
+unfolding playOf playChecks
+passed h f result indices numbers n k e = go (firstOf checks) refl e
+  where
+    room : List Check
+    room = roomChecks (length f / 32) result indices numbers
+
+    checks : List Check
+    checks = playTableChecks h f ++ (askPast [] 0 (legsOf h) ++ room)
+
+    go : (v : Fault) → firstOf checks ≡ v → answered v (length (rowsPlayed h f)) (length (refusedIn h f)) ≡ Done n k → Passed h f × (n ≡ length (rowsPlayed h f))
+    go Nothing q r =
+        let p = clear checks q in (
+          record {
+            tabled = tables-clear h f (unclear (playTableChecks h f) (pass-left (playTableChecks h f) (askPast [] 0 (legsOf h) ++ room) p));
+            lots = pass-left (askPast [] 0 (legsOf h)) room (pass-right (playTableChecks h f) (askPast [] 0 (legsOf h) ++ room) p);
+          },
+          cc,
+        )
+    go (Is x) q r = let z : _≡_ {A = ℕ} 0 1 = cc in absurd (omega arith)
+
+legs-good : (h : List ℕ) → firstOf (fieldChecks Holdings h) ≡ Nothing → All (λ l. inRange 0 l ≡ true) (legsOf h)
+unfolding legsOf
+legs-good h e = map-all legOf (λ l. inRange 0 l ≡ true) (λ r. goodRecord Holdings r ≡ true) (recordsOf h) good-range (fields-good Holdings h e)
+
+none-started : Started []
+unfolding mergedInto
+none-started = record { good = tt; few = omega arith }
+
+module _ (h f : List ℕ) (p : Passed h f) where
+  rows-fine : Fine (rowsPlayed h f)
+  unfolding rowsPlayed
+  rows-fine =
+      let s = started [] (legsOf h) 0 none-started (p .lots) (legs-good h (p .tabled .fields)) in
+      fine-over (merged (legsOf h)) (recordsOf f) (record { few = omega (arith, s .few, length-legs h, p .tabled .torn); good = s .good })
+
+  rows-apart : Apart (rowsPlayed h f)
+  unfolding rowsPlayed
+  rows-apart = ledger-stands (legsOf h) (recordsOf f) (filled (legsOf h) (legs-good h (p .tabled .fields))) .apart
+
+listed : (h f : List ℕ) (result indices numbers n k : ℕ) → playOf h f result indices numbers ≡ Done n k → k ≡ length (refusedIn h f)
+unfolding playOf
+listed h f result indices numbers n k e = go (firstOf (playChecks h f result indices numbers)) e
+  where
+    go : (v : Fault) → answered v (length (rowsPlayed h f)) (length (refusedIn h f)) ≡ Done n k → k ≡ length (refusedIn h f)
+    go Nothing r = cc
+    go (Is x) r = let z : _≡_ {A = ℕ} 0 1 = cc in absurd (omega arith)
+
+-- ---- its table
+
+records-good : (rows : List Leg) → All (λ l. inRange 0 l ≡ true) rows → All (λ r. goodRecord Holdings r ≡ true) (recordsOf (bytesOf rows))
+unfolding bytesOf chunks
+records-good [] a = tt
+records-good (x ∷ xs) a =
+    rw (records-append 1 (legBytes x) (bytesOf xs) (length-leg-bytes x), one-record x)
+    (leg-good 0 x (omega arith) (a .0), records-good xs (a .1))
+
+whole-bytes : (rows : List Leg) → Fine rows → wholeTable Holdings (length (bytesOf rows)) ≡ true
+whole-bytes rows f =
+    let l = length-bytes rows in
+    rw (eq-eqb (length (bytesOf rows) % 32) 0 (omega arith), le-leb (length (bytesOf rows) / 32) 256 (omega (arith, f .few)))
+
+table-sound : (rows : List Leg) → Fine rows → countedOf Holdings (bytesOf rows) ≡ Records (length rows)
+unfolding countedOf tableChecks fieldChecks
+table-sound rows f =
+    let l = length-bytes rows in
+    let q : length (bytesOf rows) / 32 ≡ length rows = omega arith in
+    let p : Pass (tableChecks Holdings (bytesOf rows)) = (whole-bytes rows f, each-pass (goodRecord Holdings) 4 1 0 (recordsOf (bytesOf rows)) (records-good rows (f .good))) in
+    rw (unclear (tableChecks Holdings (bytesOf rows)) p, q)
+
+pub result-sound : ResultSound
+result-sound h f result indices numbers n k e =
+    let p = passed h f result indices numbers n k e in
+    table-sound (rowsPlayed h f) (rows-fine h f (p .0)) ∙ ap Records (sym (p .1))
+
+-- ---- played over by no fills
+
+opened-new : (x : Leg) (rows : List Leg) → All (λ y. sameLineSide y x ≡ false) rows → opened x rows ≡ rows ++ x ∷ []
+unfolding opened
+opened-new x [] a = refl
+opened-new x (y ∷ ys) a = rw (line-sym x y, a .0, opened-new x ys (a .1))
+
+all-mid : (P : Leg → Type 0) (a b : List Leg) (x : Leg) → All P (a ++ x ∷ b) → P x
+all-mid P [] b x p = p .0
+all-mid P (y ∷ a) b x p = all-mid P a b x (p .1)
+
+apart-front : (a b : List Leg) (x : Leg) → Apart (a ++ x ∷ b) → All (λ y. sameLineSide y x ≡ false) a
+apart-front [] b x p = tt
+apart-front (y ∷ a) b x p = (all-mid (λ w. sameLineSide y w ≡ false) a b x (p .0), apart-front a b x (p .1))
+
+-- rows that are apart already
+merged-apart : (rows legs : List Leg) → Apart (rows ++ legs) → mergedInto rows legs ≡ rows ++ legs
+unfolding mergedInto
+merged-apart rows [] a = sym (append-nil rows)
+merged-apart rows (x ∷ xs) a =
+    rw (opened-new x rows (apart-front rows xs x a))
+    (merged-apart (rows ++ x ∷ []) xs (rw (append-one rows x xs) a) ∙ append-one rows x xs)
+
+again : (rows : List Leg) → Fine rows → Apart rows → rowsPlayed (bytesOf rows) [] ≡ rows
+unfolding rowsPlayed playedOver chunks
+again rows f a = rw (legs-back rows (f .good)) (merged-apart [] rows a)
+
+-- no fill is played, and none refused
+none-refused : (h : List ℕ) → refusedIn h [] ≡ []
+unfolding refusedIn refusedOver chunks
+none-refused h = refl
+
+past-apart : (before rest : List Leg) (i : ℕ) → Apart (before ++ rest) → All (λ l. inRange 0 l ≡ true) rest → Pass (askPast before i rest)
+unfolding askPast
+past-apart before [] i a g = tt
+past-apart before (x ∷ xs) i a g = (
+  le-leb (contractsOf x before + x .contracts .0) 100000
+      (omega (arith, contracts-apart x before (apart-front before xs x a), ranges 0 x (g .0) .contracts .1)),
+  past-apart (before ++ x ∷ []) xs (i + 1) (rw (append-one before x xs) a) (g .1),
+)
+
+-- a table of rows apart, played over by no fills, is refused nothing
+again-clear : (rows : List Leg) (room i j : ℕ) → Fine rows → Apart rows → 8192 ≤ room → firstOf (playChecks (bytesOf rows) [] room i j) ≡ Nothing
+unfolding playChecks playTableChecks fieldChecks roomChecks
+again-clear rows room i j f a h =
+    let w = whole-bytes rows f in
+    let fields : Pass (playTableChecks (bytesOf rows) []) =
+    (rw w, each-pass (goodRecord Holdings) 4 1 0 (recordsOf (bytesOf rows)) (records-good rows (f .good))) in
+    let lots : Pass (askPast [] 0 (legsOf (bytesOf rows))) = rw (legs-back rows (f .good)) (past-apart [] rows 0 a (f .good)) in
+    let room-there : Pass (roomChecks 0 room i j) = (le-leb 8192 room h, (rw (le-leb 0 i (omega arith), le-leb 0 j (omega arith)), tt)) in
+    unclear (playChecks (bytesOf rows) [] room i j)
+    (pass-both (playTableChecks (bytesOf rows) []) (askPast [] 0 (legsOf (bytesOf rows)) ++ roomChecks 0 room i j) fields
+    (pass-both (askPast [] 0 (legsOf (bytesOf rows))) (roomChecks 0 room i j) lots room-there))
+
+again-done : (rows : List Leg) (room i j : ℕ) → Fine rows → Apart rows → 8192 ≤ room → playOf (bytesOf rows) [] room i j ≡ Done (length rows) 0
+unfolding playOf
+again-done rows room i j f a h = rw (again-clear rows room i j f a h, again rows f a, none-refused (bytesOf rows))
+
+-- the records that a call leaves at the front of its result
+left-records : (rows : List Leg) (result : List ℕ) (n k : ℕ) → n ≡ length rows → take (32 * n) (left (Done n k) (bytesOf rows) result) ≡ bytesOf rows
+unfolding left
+left-records rows result n k e =
+    let m : 32 * n ≡ length (bytesOf rows) = omega (arith, length-bytes rows) in
+    rw m (put-front result (bytesOf rows))
+
+pub result-stays : ResultStays
+result-stays h f result indices numbers n k e room i j r =
+    let q = passed h f (length result) indices numbers n k e in
+    let rows = rowsPlayed h f in
+    let fine = rows-fine h f (q .0) in
+    let apart = rows-apart h f (q .0) in
+    rw (left-records rows result n k (q .1)) (again-done rows room i j fine apart r ∙ ap (λ (m : ℕ). Done m 0) (sym (q .1)), ap bytesOf (again rows fine apart))
+
+-- ---- rows and ledger of a call
+
+pub call-stands : CallStands
+unfolding rowsPlayed refusedIn
+call-stands h f result indices numbers n k e =
+    let p = passed h f result indices numbers n k e .0 in
+    let some = filled (legsOf h) (legs-good h (p .tabled .fields)) in
+    (ledger-stands (legsOf h) (recordsOf f) some, ledger-refuses (legsOf h) (recordsOf f) some)
+
+-- ---- what is left in the lent slices
+
+leaves : (entries d : List ℕ) → Leaves entries d (putAt d 0 entries)
+leaves entries d = (put-front d entries, put-past d entries)
+
+pub play-leaves : PlayLeaves
+unfolding left
+play-leaves h f d i m = go (playOf h f (length d) (length i) (length m)) refl
+  where
+    go : (r : Played) → playOf h f (length d) (length i) (length m) ≡ r → LeftBy r h f d i m
+    go (Done n k) e = (
+      length-bytes (rowsPlayed h f) ∙ ap (λ (t : ℕ). 32 * t) (sym (passed h f (length d) (length i) (length m) n k e .1)),
+      sym (listed h f (length d) (length i) (length m) n k e),
+      leaves (bytesOf (rowsPlayed h f)) d,
+      leaves (indicesOf (refusedIn h f)) i,
+      leaves (numbersOf (refusedIn h f)) m,
+    )
+    go (Refused r) e = (refl, refl, refl)

@@ -1,0 +1,86 @@
+-- What is demanded of the day's fills, of the definitions that the contract of `play` cites; each is proved in proofs/Demands.
+use mathlib.Core.Path.{_≡_}
+use mathlib.Core.List.{List, []}
+use Prim.Native.Nat.{ℕ, _+_, _*_, _≤_}
+use lib.ListN.{length, take, drop}
+use Rattle.records.specs.Chunks.{recordsOf}
+use Rattle.records.specs.Lines.{contractsOf}
+use Rattle.records.specs.Tables.{countedOf, legsOf}
+use Rattle.records.specs.declared.legs.Leg.{Leg}
+use Rattle.records.specs.declared.tables.Kind.the-variants.{Holdings}
+use Rattle.records.specs.declared.tables.Counted.the-variants.{Records}
+use Rattle.fills.specs.Rows.{merged, bytesOf}
+use Rattle.fills.specs.Played.{playedOver, refusedOver}
+use Rattle.fills.specs.Calls.{rowsPlayed, refusedIn, playOf, left, indicesOf, numbersOf}
+use Rattle.fills.specs.Ledger.{Ledger, emptyLedger, startedFrom, ledgerOver, refusedBy, StandFor, Filled}
+use Rattle.fills.specs.Balance.{acceptedOver, openedIn, closedIn}
+use Rattle.fills.specs.declared.calls.Played.{Played}
+use Rattle.fills.specs.declared.calls.Played.the-variants.{Done, Refused}
+
+-- ---- 'Each is answered as a plain ledger from line and side to contracts would.'
+
+-- After any fills over any starting table of records with at least one contract the rows stand for the ledger: each line and
+-- side in at most one row, its contracts the ledger's, and as many rows as the ledger has lines.
+abbrev pub LedgerStands : Type 0
+LedgerStands = (legs : List Leg) (fills : List (List ℕ)) → Filled legs
+    → StandFor (playedOver (merged legs) fills) (ledgerOver (startedFrom emptyLedger legs) fills)
+
+-- and each fill is refused just as the ledger says, with its number
+abbrev pub LedgerRefuses : Type 0
+LedgerRefuses = (legs : List Leg) (fills : List (List ℕ)) → Filled legs
+    → refusedOver 0 (merged legs) fills ≡ refusedBy 0 (startedFrom emptyLedger legs) fills
+
+-- the ledger starts with the contracts of the starting table, summed by line and side
+abbrev pub LedgerStarts : Type 0
+LedgerStarts = (legs : List Leg) → Filled legs → (x : Leg) → startedFrom emptyLedger legs .held x ≡ contractsOf x legs
+
+-- the ledger of a call's tables
+abbrev pub startOf : List ℕ → Ledger
+startOf h = startedFrom emptyLedger (legsOf h)
+
+-- the same of every call that is not refused
+abbrev pub CallStands : Type 0
+CallStands = (h f : List ℕ) (result indices numbers n k : ℕ) → playOf h f result indices numbers ≡ Done n k
+    → StandFor (rowsPlayed h f) (ledgerOver (startOf h) (recordsOf f)) × (refusedIn h f ≡ refusedBy 0 (startOf h) (recordsOf f))
+
+-- ---- contracts are neither made nor lost
+
+-- in each line and side: what it has at the end and what accepted fills closed is what it had and what accepted fills opened
+abbrev pub ContractsKept : Type 0
+ContractsKept = (legs : List Leg) (fills : List (List ℕ)) → Filled legs
+    → (x : Leg)
+    → (let accepted = acceptedOver (merged legs) fills in
+    contractsOf x (playedOver (merged legs) fills) + closedIn x accepted ≡ contractsOf x legs + openedIn x accepted)
+
+-- ---- the result table of a call that is not refused
+
+-- it is a table of holdings: whole records, at most 256, each field in its range
+abbrev pub ResultSound : Type 0
+ResultSound = (h f : List ℕ) (result indices numbers n k : ℕ) → playOf h f result indices numbers ≡ Done n k
+    → countedOf Holdings (bytesOf (rowsPlayed h f)) ≡ Records n
+
+-- With no fills at all it comes out as it went in: a second call, over the records that the first left in `result`, answers as many
+-- and no refused fill, in any lent slices with room for a table, and leaves the same records there.
+abbrev pub ResultStays : Type 0
+ResultStays = (h f result : List ℕ) (indices numbers n k : ℕ) → playOf h f (length result) indices numbers ≡ Done n k
+    → (room i j : ℕ) → 8192 ≤ room
+    → (let records = take (32 * n) (left (Done n k) (bytesOf (rowsPlayed h f)) result) in
+    (playOf records [] room i j ≡ Done n 0) × (bytesOf (rowsPlayed records []) ≡ records))
+
+-- ---- 'Nothing lent is written' on a refusal; 'what lies past its output in a lent slice stays'
+
+abbrev pub Leaves : List ℕ → List ℕ → List ℕ → Type 0
+Leaves entries before after = (take (length entries) after ≡ entries) × (drop (length entries) after ≡ drop (length entries) before)
+
+-- what an answer leaves in the three lent slices
+abbrev pub LeftBy : Played → List ℕ → List ℕ → List ℕ → List ℕ → List ℕ → Type 0
+LeftBy (Done n k) h f d i m =
+    (length (bytesOf (rowsPlayed h f)) ≡ 32 * n)
+    × (length (refusedIn h f) ≡ k)
+    × Leaves (bytesOf (rowsPlayed h f)) d (left (Done n k) (bytesOf (rowsPlayed h f)) d)
+    × Leaves (indicesOf (refusedIn h f)) i (left (Done n k) (indicesOf (refusedIn h f)) i)
+    × Leaves (numbersOf (refusedIn h f)) m (left (Done n k) (numbersOf (refusedIn h f)) m)
+LeftBy (Refused r) h f d i m = (left (Refused r) (bytesOf (rowsPlayed h f)) d ≡ d) × (left (Refused r) (indicesOf (refusedIn h f)) i ≡ i) × (left (Refused r) (numbersOf (refusedIn h f)) m ≡ m)
+
+abbrev pub PlayLeaves : Type 0
+PlayLeaves = (h f d i m : List ℕ) → LeftBy (playOf h f (length d) (length i) (length m)) h f d i m

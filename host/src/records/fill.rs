@@ -1,0 +1,58 @@
+//! Fills: what a day's trading did to the holdings.
+
+use super::leg::choice;
+use super::{Leg, RECORD_BYTES};
+
+/// Where in a fill its action stands; in a leg the byte is filler.
+pub const ACTION_AT: usize = 24;
+
+/// What a fill does with the lot of its side.
+#[derive(Clone, Copy, Debug, PartialEq, Eq, Hash)]
+pub enum Action {
+    /// Adds to it, or begins it.
+    Open = 1,
+    /// Takes from it.
+    Close = 2,
+}
+
+/// One fill: so many contracts of a line and side, opened or closed.
+#[derive(Clone, Copy, Debug, PartialEq, Eq, Hash)]
+pub struct Fill {
+    /// Open or close.
+    pub action: Action,
+    /// Line, side and contracts; its group is 0, as in holdings.
+    pub leg: Leg,
+}
+
+impl Fill {
+    /// The 32 bytes of the record.
+    pub fn to_bytes(&self) -> [u8; RECORD_BYTES] {
+        let mut record = self.leg.to_bytes();
+        record[ACTION_AT] = self.action as u8;
+        record
+    }
+
+    /// The fill in these 32 bytes, or none if a field is out of range.
+    pub fn from_bytes(record: &[u8; RECORD_BYTES]) -> Option<Fill> {
+        let action = choice(record[ACTION_AT], Action::Open, Action::Close)?;
+        let mut held = *record;
+        held[ACTION_AT] = 0;
+        Leg::from_bytes(&held).filter(|leg| leg.group == 0).map(|leg| Fill { action, leg })
+    }
+}
+
+#[cfg(test)]
+mod tests {
+    use super::*;
+    use crate::accounts::{in_group, leg};
+
+    #[test]
+    fn a_fill_survives_its_bytes() {
+        for action in [Action::Open, Action::Close] {
+            let fill = Fill { action, leg: in_group(0, leg("S50p")) };
+            assert_eq!(Fill::from_bytes(&fill.to_bytes()), Some(fill));
+            assert_eq!(Fill::from_bytes(&Fill { leg: leg("S50p"), ..fill }.to_bytes()), None);
+        }
+        assert_eq!(Fill::from_bytes(&in_group(0, leg("S50p")).to_bytes()), None, "a fill has an action");
+    }
+}

@@ -1,0 +1,87 @@
+//! `play`: a text of fills over a text of holdings.
+
+use std::fs;
+
+use crate::{folder, names_in, run, told, VERTICAL};
+
+const LEG: &str = "call 60.000 2011-05-21 unit 100 underlying 7 american listed";
+
+#[test]
+fn a_day_is_played_and_what_is_held_is_written() {
+    let folder = folder("tool-play");
+    fs::write(folder.join("held.txt"), format!("holdings\n long 3 {LEG}\n long 2 {LEG}\n")).expect("a text");
+    let fills = format!("fills\n close long 4 {LEG}\n open short 1 {LEG}\n");
+    fs::write(folder.join("fills.txt"), fills).expect("a text");
+    let summary = "2 played, 0 refused; the holdings have 2 records\n";
+    assert_eq!(
+        told(run(&folder, &["play", "held.txt", "fills.txt", "out.txt"], b"")),
+        (0, String::new(), summary.into())
+    );
+    let today = format!("holdings\n  long  1 {LEG}\n  short 1 {LEG}\n");
+    assert_eq!(fs::read_to_string(folder.join("out.txt")).expect("written"), today);
+    // What comes out can be played on.
+    let none = told(run(&folder, &["play", "out.txt", "-", "-"], b"fills\n"));
+    assert_eq!(none, (0, today, "0 played, 0 refused; the holdings have 2 records\n".into()));
+}
+
+#[test]
+fn refused_fills_are_told_one_a_line_and_play_goes_on() {
+    let folder = folder("tool-play-refused");
+    let fills = format!("fills\n close long 4 {LEG}\n open long 1 {LEG}\n close short 1 {LEG}\n");
+    fs::write(folder.join("fills.txt"), fills).expect("a text");
+    let held = format!("holdings\n long 3 {LEG}\n");
+    let sentences = format!(
+        "fills.txt: refusal 18: the 1st fill (`close long 4 {LEG}`) closes 4 contracts, and 3 are held\n\
+         fills.txt: refusal 18: the 3rd fill (`close short 1 {LEG}`) closes 1 contract, and none is held\n\
+         1 played, 2 refused; the holdings have 1 record\n"
+    );
+    let today = format!("holdings\n  long  4 {LEG}\n");
+    let played = told(run(&folder, &["play", "-", "fills.txt", "-"], held.as_bytes()));
+    assert_eq!(played, (1, today, sentences));
+}
+
+#[test]
+fn a_sheets_placement_and_claims_are_left_out() {
+    let folder = folder("tool-play-sheet");
+    fs::write(folder.join("fills.txt"), "fills\n").expect("a text");
+    let (status, printed, told) = told(run(&folder, &["play", "-", "fills.txt", "-"], VERTICAL.as_bytes()));
+    assert_eq!((status, printed.lines().count()), (0, 3));
+    let expected =
+        "-: its placement and its claims are left out\n0 played, 0 refused; the holdings have 2 records\n";
+    assert_eq!(told, expected);
+}
+
+#[test]
+fn what_cannot_be_played_writes_nothing() {
+    let folder = folder("tool-play-wrong");
+    let held = format!("holdings\n long 60000 {LEG}\n long 60000 {LEG}\n");
+    fs::write(folder.join("held.txt"), held).expect("a text");
+    fs::write(folder.join("fills.txt"), "fills\n").expect("a text");
+    fs::write(folder.join("bad.txt"), format!("fills\n opened long 1 {LEG}\n")).expect("a text");
+    let past = format!(
+        "sheet: held.txt: refusal 19: the 2nd record of the holdings (`long 60000 {LEG}`): with it there are \
+         120,000 contracts of its line and side, more than 100,000\n"
+    );
+    let word = "sheet: bad.txt: line 2, column 2: expected `open` or `close`, found `opened`\n";
+    let both = "sheet: holdings and fills cannot both be standard input\n";
+    let same = "sheet: fills.txt: is played; what comes out needs another name\n";
+    for (arguments, message) in [
+        (["play", "held.txt", "fills.txt", "out.txt"], past.as_str()),
+        (["play", "held.txt", "bad.txt", "out.txt"], word),
+        (["play", "-", "-", "out.txt"], both),
+        (["play", "held.txt", "fills.txt", "./fills.txt"], same),
+    ] {
+        assert_eq!(told(run(&folder, &arguments, b"")), (2, String::new(), message.into()));
+    }
+    assert_eq!(names_in(&folder), ["bad.txt", "fills.txt", "held.txt"]);
+}
+
+#[test]
+fn the_fills_in_the_help_are_some_that_play_reads() {
+    let example: String = usm::text::FILLS_FORMAT
+        .lines()
+        .filter(|line| line.starts_with("  "))
+        .map(|line| format!("{line}\n"))
+        .collect();
+    assert_eq!(usm::text::parse_fills(&example).map(|fills| fills.len()), Ok(2));
+}
