@@ -1,38 +1,28 @@
--- Every month has at least 28 days.
-use Prim.Native.Nat.{ℕ, zero, suc, _-_, _≤_, _<_}
+-- The lengths of the months: what they are, and that none has fewer than 28 days.
+use Prim.Native.Nat.{ℕ, _+_, _/_, _%_, _≤_}
 use mathlib.Core.Path.{_≡_, refl}
-use mathlib.Core.Bool.{Bool, true, false, cond, _&&_, and-true, and-false, and-eq-true-iff}
-use mathlib.Core.List.{List, [], _∷_}
+use mathlib.Core.Bool.{Bool, true, false, cond, _&&_, and-true, and-false}
+use mathlib.Core.List.{[], _∷_, map}
 use native.Mathlib.Omega.{arith}
 use lib.Dec.{eqb, leb}
-use lib.ListN.{length, getD}
 use borrow.Author.Tests.{le-leb, lt-leb, leb-true, leb-false}
-use Rattle.records.specs.Dates.{leapYear, monthLengths, daysIn}
-use Rattle.records.specs.Lists.{All}
+use Rattle.records.specs.Dates.{leapYear, february, daysIn}
 use Rattle.records.specs.Within.{within}
 
-at-least : (n : ℕ) (xs : List ℕ) → All (λ x. n ≤ x) xs → (i : ℕ) → i < length xs → n ≤ getD xs i 0
-at-least n [] all i h = absurd (omega arith)
-at-least n (x ∷ xs) all zero h = all .0
-at-least n (x ∷ xs) all (suc i) h = at-least n xs (all .1) i (omega arith)
-
-month-least : (i : ℕ) → i < 12 → 28 ≤ getD monthLengths i 0
-month-least i h =
-    at-least 28 monthLengths
-    (omega arith, (omega arith, (omega arith, (omega arith, (omega arith, (omega arith, (omega arith, (omega arith, (omega arith, (omega arith, (omega arith, (omega arith, tt))))))))))))
-    i h
+-- the lengths are those of the table of twelve that stood here before, February by leap year
+pub twelve-lengths : (year : ℕ) → map (daysIn year) (1 ∷ 2 ∷ 3 ∷ 4 ∷ 5 ∷ 6 ∷ 7 ∷ 8 ∷ 9 ∷ 10 ∷ 11 ∷ 12 ∷ [])
+    ≡ 31 ∷ february year ∷ 31 ∷ 30 ∷ 31 ∷ 30 ∷ 31 ∷ 31 ∷ 30 ∷ 31 ∷ 30 ∷ 31 ∷ []
+unfolding daysIn
+twelve-lengths year = refl
 
 days-least : (year month : ℕ) → within 1 12 month ≡ true → 28 ≤ daysIn year month
-unfolding daysIn
-days-least year month e = rw e (go (eqb month 2 && leapYear year))
+unfolding daysIn february
+days-least year month e = rw e (go (eqb month 2) (leapYear year))
   where
-    go : (t : Bool) → 28 ≤ cond t 29 (getD monthLengths (month - 1) 0)
-    go true = omega arith
-    go false =
-        let p = and-eq-true-iff (leb 1 month) (leb month 12) .0 e in
-        let low = leb-true 1 month (p .0) in
-        let high = leb-true month 12 (p .1) in
-        month-least (month - 1) (omega arith)
+    go : (t l : Bool) → 28 ≤ cond t (cond l 29 28) (30 + (month + month / 8) % 2)
+    go true true = omega arith
+    go true false = omega arith
+    go false l = omega arith
 
 no-days : (year month : ℕ) → within 1 12 month ≡ false → daysIn year month ≡ 0
 unfolding daysIn

@@ -1,6 +1,6 @@
 // Expiries: YYYYMMDD as a number, a real date, 20000101 to 20991231.
 ghost use mathlib.Core.Path.{_≡_};
-ghost use Rattle.records.specs.Dates.{leapYear, daysIn, realDate};
+ghost use Rattle.records.specs.Dates.{leapYear, february, daysIn, realDate};
 ghost use Rattle.records.specs.Within.{within};
 use crate::within::is_within;
 
@@ -10,8 +10,16 @@ fn leap_year(year: u32) -> bool
     (year % 4 == 0) & (!(year % 100 == 0) | (year % 400 == 0))
 }
 
-const MONTH_LENGTHS: [u32; 12] = [31, 28, 31, 30, 31, 30, 31, 31, 30, 31, 30, 31];
+fn february(year: u32) -> u32
+    ensures { λ r. ⌜ r ≡ february year ⌝ }
+{
+    if leap_year(year) {
+        return 29;
+    }
+    28
+}
 
+// What a member can recite: document 02, [5].
 fn days_in(year: u32, month: u32) -> u32
     ensures { λ r. ⌜ r ≡ daysIn year month ⌝ }
 {
@@ -21,11 +29,10 @@ fn days_in(year: u32, month: u32) -> u32
     if 12 < month {
         return 0;
     }
-    if (month == 2) & leap_year(year) {
-        return 29;
+    if month == 2 {
+        return february(year);
     }
-    let i = (month - 1) as usize;
-    MONTH_LENGTHS[i]
+    30 + (month + month / 8) % 2
 }
 
 // Every month has 28 days, so its length is asked for past the 28th only.

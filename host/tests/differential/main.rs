@@ -9,6 +9,7 @@
 mod boxes;
 mod cases;
 mod compare;
+mod dates;
 mod faults;
 mod files;
 mod fills;
