@@ -9,7 +9,7 @@ use Rattle.records.specs.Legs.{legOf, unitsOf, plusUnits}
 use Rattle.records.specs.Claims.{claimOf}
 use Rattle.records.specs.Lines.{sameLine, sameLineSide}
 use Rattle.records.specs.Order.{firstOf}
-use Rattle.records.specs.Tables.{tableNumber, wholeTables, fieldChecks, fieldsChecks, countedOf}
+use Rattle.records.specs.Tables.{tableNumber, inLimit, wholeTables, fieldChecks, fieldsChecks, countedOf}
 use Rattle.records.specs.declared.counts.Contracts.{Contracts}
 use Rattle.records.specs.declared.counts.Units.{Units}
 use Rattle.records.specs.declared.legs.Leg.{Leg}
@@ -45,6 +45,9 @@ same-line-side-unique a b r s = one-outcome
 
 table-number-unique : (kind : Kind) (r s : ℕ) → r ≡ tableNumber kind → s ≡ tableNumber kind → r ≡ s
 table-number-unique kind r s = one-outcome
+
+in-limit-unique : (kind : Kind) (records : ℕ) (r s : Bool) → r ≡ inLimit kind records → s ≡ inLimit kind records → r ≡ s
+in-limit-unique kind records r s = one-outcome
 
 whole-tables-unique : (h p c : ℕ) (r s : Bool) → r ≡ wholeTables h p c → s ≡ wholeTables h p c → r ≡ s
 whole-tables-unique h p c r s = one-outcome
