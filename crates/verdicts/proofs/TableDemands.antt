@@ -11,14 +11,15 @@ use Rattle.records.specs.declared.legs.Leg.{Leg}
 use Rattle.records.proofs.ListLaws.{all-append}
 use Rattle.records.proofs.Measures.{sum-append}
 use Rattle.blocks.specs.File.{tablesIn}
+use Rattle.blocks.proofs.Accounts.{moved-alike}
 use Rattle.spreads.specs.Spreads.{groupOf}
 use Rattle.spreads.specs.Strikes.{marginOf, lossOf}
 use Rattle.spreads.proofs.Nets.{margin-nets}
 use Rattle.sheets.specs.Sheets.{claimFor, totalOf}
 use Rattle.sheets.proofs.Groups.{total, total-ext, total-claims}
 use Rattle.verdicts.specs.TableText.{shownOf, shownIn, tableText}
-use Rattle.verdicts.specs.TableDemands.{TableReadsBack, TableTotal, TableMargins, RefusedPrints}
-use Rattle.verdicts.proofs.Demands.{file-just}
+use Rattle.verdicts.specs.TableDemands.{TableReadsBack, TableTotal, TableMargins, MovedTable, RefusedPrints}
+use Rattle.verdicts.proofs.Demands.{file-just, moved-verdict}
 use Rattle.verdicts.proofs.ReadBack.{table-read}
 use Rattle.verdicts.proofs.Worksheets.{length-nets}
 
@@ -62,6 +63,10 @@ table-total file n amount e =
 
 pub table-margins : TableMargins
 table-margins file n total e = rw (table-reads-back file n (pos total) e) (shown-margins (legsOf (tablesIn file .placement)) n)
+
+pub moved-table : MovedTable
+unfolding tableText
+moved-table from to file out n a x = rw (moved-verdict from to file out n a x, moved-alike from to file out n a x .1)
 
 pub refused-prints : RefusedPrints
 unfolding tableText

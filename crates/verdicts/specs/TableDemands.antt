@@ -1,12 +1,19 @@
--- What is demanded of the table: document 02, [1]. The proofs stand in proofs/TableDemands.antt.
+-- What is demanded of the table: document 02, [1], and of a moved file's, [6]. The proofs stand in proofs/TableDemands.antt.
 use mathlib.Core.Path.{_≡_}
 use mathlib.Core.List.{List}
 use Prim.Native.Nat.{ℕ}
 use lib.IntN.{ℤ, pos}
+use lib.ListN.{length, take}
 use Rattle.records.specs.Lists.{sumOf, most, All}
 use Rattle.records.specs.Tables.{legsOf}
 use Rattle.records.specs.declared.refusals.Refusal.{Refusal}
 use Rattle.blocks.specs.File.{tablesIn}
+use Rattle.blocks.specs.Writer.{filled}
+use Rattle.blocks.specs.Moves.{moveOf}
+use Rattle.blocks.specs.RoundTrips.{AllBytes}
+use Rattle.blocks.specs.declared.forms.Form.{Form}
+use Rattle.blocks.specs.declared.forms.Origin.{Origin}
+use Rattle.blocks.specs.declared.answers.Writing.the-variants.{Wrote}
 use Rattle.spreads.specs.Strikes.{lossOf}
 use Rattle.sheets.specs.declared.sheet.Verdict.the-variants.{Accepted, Refused}
 use Rattle.verdicts.specs.FileVerdicts.{fileVerdict}
@@ -27,6 +34,11 @@ TableTotal = (file : List ℕ) (n total : ℕ) → fileVerdict file ≡ Accepted
 abbrev pub TableMargins : Type 0
 TableMargins = (file : List ℕ) (n total : ℕ) → fileVerdict file ≡ Accepted n (pos total)
     → All (λ s. s .margin ≡ most lossOf (s .nets)) (tableIn (tableText file))
+
+-- request [6]: a file that was moved prints what it printed
+abbrev pub MovedTable : Type 0
+MovedTable = (from : Form) (to : Origin) (file out : List ℕ) (n : ℕ) → AllBytes file → moveOf from to file (length out) ≡ Wrote n
+    → tableText (take n (filled (Wrote n) to (tablesIn file) out)) ≡ tableText file
 
 -- 'A refused sheet prints only its REFUSE line'
 abbrev pub RefusedPrints : Type 0
