@@ -15,13 +15,16 @@
 //   clear                   empty all
 //   try h|p|c ..            empty a table, append the record and check the table
 //   check T · margin G · margins N ROOM · worksheet G STRIKES NETS · sheet
-//   write ROOM · file · table · read ROOM ROOM ROOM
+//   write ROOM [FORM ACCOUNT] · file · table · read ROOM ROOM ROOM · judge
+//   to_new ACCOUNT ROOM · to_old ROOM    the file, moved, takes the file's place
+//   again [FORM ACCOUNT]    whether the tables, written, are the file
 mod bytes;
 mod calls;
 mod edits;
 mod files;
 mod lists;
 mod memory;
+mod moves;
 mod print;
 mod seals;
 mod text;
@@ -77,7 +80,7 @@ fn ask_tables(line: &[u8], memory: &[u8], sizes: &[usize]) -> bool {
 // The commands on the file that answer, likewise.
 fn ask_files(line: &[u8], memory: &mut [u8], sizes: &mut [usize]) -> bool {
     if says(line, b"write") {
-        files::write(memory, sizes, number(line, 1));
+        files::write(line, memory, sizes);
         return true;
     }
     if says(line, b"file") {
@@ -95,6 +98,27 @@ fn ask_files(line: &[u8], memory: &mut [u8], sizes: &mut [usize]) -> bool {
     false
 }
 
+// The commands on the file's form and account, likewise.
+fn ask_forms(line: &[u8], memory: &mut [u8], sizes: &mut [usize]) -> bool {
+    if says(line, b"judge") {
+        moves::judge(memory, sizes);
+        return true;
+    }
+    if says(line, b"to_new") {
+        moves::to_new(memory, sizes, number(line, 1), number(line, 2));
+        return true;
+    }
+    if says(line, b"to_old") {
+        moves::to_old(memory, sizes, number(line, 1));
+        return true;
+    }
+    if says(line, b"again") {
+        moves::again(line, memory, sizes);
+        return true;
+    }
+    false
+}
+
 fn ask(line: &[u8], memory: &mut [u8], sizes: &mut [usize]) {
     if ask_tables(line, memory, sizes) {
         return;
@@ -104,6 +128,9 @@ fn ask(line: &[u8], memory: &mut [u8], sizes: &mut [usize]) {
         return;
     }
     if ask_files(line, memory, sizes) {
+        return;
+    }
+    if ask_forms(line, memory, sizes) {
         return;
     }
     print(b" ?\n");
