@@ -12,8 +12,6 @@ use crate::forms::kept_in;
 use crate::forms::mark_of;
 use records::Kind;
 use records::RECORD_BYTES;
-use records::table_number;
-use records::u16_at;
 
 // Where things stand in a block of 512 bytes: kind and count in its first 16, the records, of 32
 // bytes each, from byte 16 on, bytes 496 to 507 after the last of 15, and the checks after those.
@@ -58,7 +56,7 @@ pub(crate) fn head_bytes(frame: Frame, kind: Kind, count: u8, number: u16) -> [u
         mark[1],
         mark[2],
         mark[3],
-        table_number(kind),
+        records::table_number(kind),
         count,
         (number % 256) as u8,
         (number / 256) as u8,
@@ -107,10 +105,10 @@ fn account_of(form: Form, block: &[u8]) -> u64
     requires { ⌜ length (now block) ≡ 512 ⌝ }
     ensures { λ r. ⌜ r ≡ accountOf form (now (block .entry)) ⌝ }
 {
-    let a = u16_at(block, TAIL_AT) as u64;
-    let b = u16_at(block, TAIL_AT + 2) as u64;
-    let c = u16_at(block, TAIL_AT + 4) as u64;
-    let d = u16_at(block, TAIL_AT + 6) as u64;
+    let a = records::u16_at(block, TAIL_AT) as u64;
+    let b = records::u16_at(block, TAIL_AT + 2) as u64;
+    let c = records::u16_at(block, TAIL_AT + 4) as u64;
+    let d = records::u16_at(block, TAIL_AT + 6) as u64;
     kept_in(form, a + 65536 * (b + 65536 * (c + 65536 * d)))
 }
 
@@ -176,7 +174,7 @@ pub(crate) fn number_fits(number: u16, blocks: u16, block: &[u8]) -> bool
     requires { ⌜ length (now block) ≡ 512 ⌝ }
     ensures { λ r. ⌜ r ≡ numberFits number blocks (now (block .entry)) ⌝ }
 {
-    (u16_at(block, 6) == number) & (u16_at(block, 8) == blocks)
+    (records::u16_at(block, 6) == number) & (records::u16_at(block, 8) == blocks)
 }
 
 // Whether the account is the one given, and not zero in the new form.
