@@ -22,6 +22,9 @@ pub(crate) const MOST_BLOCKS: usize = 39;
 
 pub const MOST_FILE_BYTES: usize = BLOCK_BYTES * MOST_BLOCKS;
 
+// One byte more than the longest file, so that a program's input that is longer is seen to be.
+pub const INPUT_BYTES: usize = MOST_FILE_BYTES + 1;
+
 const MARK_BYTES: usize = 4;
 
 pub(crate) const KIND_AT: usize = 4;

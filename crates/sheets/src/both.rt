@@ -2,10 +2,11 @@
 ghost use mathlib.Core.Path.{_≡_};
 ghost use Rattle.sheets.specs.Numbered.{legIn};
 use records::Leg;
+use records::MOST_LEGS;
 use records::RECORD_BYTES;
 
 // Most records of both tables, and how many are few.
-pub(crate) const MOST_BOTH: usize = 512;
+pub(crate) const MOST_BOTH: usize = MOST_LEGS + MOST_LEGS;
 
 pub(crate) const FEW_BOTH: usize = 32;
 

@@ -5,6 +5,8 @@ ghost use Prim.Native.Nat.{_+_, _*_, _/_, _≤_, _<_};
 ghost use lib.ListN.{length};
 ghost use Rattle.sheets.specs.Numbered.{legIn};
 ghost use Rattle.sheets.specs.Links.{bucketOf, digitsOf, restOf, linkBelow, Rising, Ends};
+use crate::both::FEW_BOTH;
+use crate::both::MOST_BOTH;
 use crate::both::leg_in;
 use crate::both::wide;
 use records::Leg;
@@ -14,9 +16,9 @@ const BUCKETS: usize = 509;
 const WAYS: usize = 8;
 
 // The links of as many records as there can be, and of few.
-pub(crate) const MOST_LINKS: usize = 4605;
+pub(crate) const MOST_LINKS: usize = BUCKETS + WAYS * MOST_BOTH;
 
-pub(crate) const FEW_LINKS: usize = 765;
+pub(crate) const FEW_LINKS: usize = BUCKETS + WAYS * FEW_BOTH;
 
 fn bucket_of(leg: Leg) -> usize
     ensures { λ r. ⌜ (r ≡ bucketOf leg) × (r < 509) ⌝ }

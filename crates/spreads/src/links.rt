@@ -8,13 +8,12 @@ ghost use Rattle.spreads.specs.Links.{noLinks, Linked, firstPlace};
 use records::MOST_GROUPS;
 use records::MOST_LEGS;
 use records::RECORD_BYTES;
-use records::leg_at;
 
 // Past the place of every record.
-pub(crate) const NOWHERE: u16 = 256;
+pub(crate) const NOWHERE: u16 = MOST_LEGS as u16;
 
 // A link of each record and, behind them, of each group from 0 on the place of its first leg.
-pub(crate) const LINKS: usize = 289;
+pub(crate) const LINKS: usize = MOST_LEGS + MOST_GROUPS as usize + 1;
 
 // From the last record on, so that each group leads through its legs in the table's order.
 pub(crate) fn link_groups(placement: &[u8], links: &mut [u16])
@@ -25,7 +24,7 @@ pub(crate) fn link_groups(placement: &[u8], links: &mut [u16])
     let mut i = placement.len() / RECORD_BYTES;
     while 0 < i {
         i -= 1;
-        let head = MOST_LEGS + leg_at(placement, i).group as usize;
+        let head = MOST_LEGS + records::leg_at(placement, i).group as usize;
         let next = links[head];
         links[i] = next;
         links[head] = i as u16;

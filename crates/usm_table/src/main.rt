@@ -1,12 +1,9 @@
 // Reads a sheet file on standard input and prints its table, or the REFUSE line of a refused one. Nothing
 // but glue: what matters is proved in `verdicts` and below it.
-use blocks::MOST_FILE_BYTES;
+use blocks::INPUT_BYTES;
 use libc::STDIN_FILENO;
 use libc::STDOUT_FILENO;
 use verdicts::TABLE_BYTES;
-
-// One byte more than the longest file, so that a longer one is seen to be too long.
-const INPUT_BYTES: usize = MOST_FILE_BYTES + 1;
 
 fn main() {
     let mut input = [0u8; INPUT_BYTES];
