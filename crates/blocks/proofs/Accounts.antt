@@ -1,7 +1,7 @@
 -- The statements of specs/Accounts.antt, proved.
 use mathlib.Core.Path.{_≡_, refl, sym, ap, _∙_}
-use mathlib.Core.Bool.{Bool, true, false, _&&_, cond, false≢true}
-use mathlib.Core.List.{List, [], _∷_, _++_}
+use mathlib.Core.Bool.{Bool, true, false, _&&_, cond}
+use mathlib.Core.List.{List, [], _∷_}
 use mathlib.Core.Logic.{_⊎_, inl, inr}
 use Prim.Native.Nat.{ℕ, zero, suc, _+_, _/_, _≤_, _<_}
 use native.Mathlib.Numerals.{add-one}
@@ -12,18 +12,16 @@ use Rattle.records.specs.Chunks.{chunkAt}
 use Rattle.records.specs.Lists.{All}
 use Rattle.records.specs.Order.{refuse, firstOf}
 use Rattle.records.specs.Written.{putAt}
-use Rattle.records.specs.declared.refusals.Fault.{Fault}
 use Rattle.records.specs.declared.refusals.Fault.the-variants.{Nothing, Is}
 use Rattle.records.specs.declared.refusals.Refusal.{Refusal}
 use Rattle.records.proofs.ChunkLaws.{all-chunk}
 use Rattle.records.proofs.OrderLaws.{first-then, first-stop}
 use Rattle.records.proofs.PassLaws.{Pass, unclear, pass-left, pass-right}
 use Rattle.records.proofs.PutLaws.{put-front}
-use Rattle.blocks.specs.Forms.{kept}
-use Rattle.blocks.specs.Block.{numberOf, blocksSaid, sumsAgree, shaped, numberFits, accountFits, formOf, originOf}
-use Rattle.blocks.specs.File.{wholeFile, blocksOf, tablesIn, originIn, frame, frameIn, follows, withinLimits, askBlock, blockChecks, blocksChecks, fileOf}
+use Rattle.blocks.specs.Block.{sumsAgree, shaped, numberFits, accountFits, originOf}
+use Rattle.blocks.specs.File.{wholeFile, blocksOf, tablesIn, originIn, frameIn, follows, withinLimits, blockChecks, blocksChecks}
 use Rattle.blocks.specs.Writer.{filled}
-use Rattle.blocks.specs.Reader.{reading, countsOf, readOf}
+use Rattle.blocks.specs.Reader.{readOf}
 use Rattle.blocks.specs.Moves.{movedTo}
 use Rattle.blocks.specs.Steps.{scanOf}
 use Rattle.blocks.specs.RoundTrips.{Reads}
