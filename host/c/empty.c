@@ -114,22 +114,26 @@ static void try_fills(void)
 /* Every choice of empty tables; and of each file that is made so, every choice of tables lent to read it. */
 static void try_tables(int there)
 {
-    uint64_t answer[USM_ANSWER_NUMBERS];
+    uint64_t answer[USM_ANSWER_NUMBERS], origin[USM_ORIGIN_NUMBERS];
     uint8_t file[3 * USM_BLOCK_BYTES], h[sizeof holdings], p[sizeof placement], c[sizeof claims];
     usm_check_sheet(TABLE(there & 1, holdings), TABLE(there & 2, placement), TABLE(there & 4, claims), answer);
     compare("usm_check_sheet", answer);
     usm_write_file(TABLE(there & 1, holdings), TABLE(there & 2, placement), TABLE(there & 4, claims),
-                   none(), 0, answer);
+                   USM_NEW_FORM, 7, none(), 0, answer);
     compare("usm_write_file", answer);
     usm_write_file(TABLE(there & 1, holdings), TABLE(there & 2, placement), TABLE(there & 4, claims),
-                   file, sizeof file, answer);
+                   USM_NEW_FORM, 7, file, sizeof file, answer);
     compare("usm_write_file", answer);
     size_t file_len = answer[0] == 0 ? (size_t)answer[1] : 0;
     for (int lent = 0; lent < 8; lent++) {
         usm_read_file(file_len ? file : none(), file_len, TABLE(lent & 1, h), TABLE(lent & 2, p),
-                      TABLE(lent & 4, c), answer);
+                      TABLE(lent & 4, c), origin, answer);
         compare("usm_read_file", answer);
     }
+    usm_move_to_old(file_len ? file : none(), file_len, none(), 0, answer);
+    compare("usm_move_to_old", answer);
+    usm_move_to_new(file_len ? file : none(), file_len, 7, none(), 0, answer);
+    compare("usm_move_to_new", answer);
 }
 
 static void try_all(void)

@@ -153,28 +153,50 @@ static int check_file(const uint8_t *file, size_t file_len)
     return 1;
 }
 
+/* The file with the account's number in each block, and without it again. */
+static int move_and_move_back(const uint8_t *file, size_t file_len)
+{
+    uint8_t moved[USM_LONGEST_FILE], back[USM_LONGEST_FILE];
+    uint64_t answer[USM_ANSWER_NUMBERS];
+    usm_move_to_new(file, file_len, 4711, moved, sizeof moved, answer);
+    if (refused("usm_move_to_new", answer))
+        return 0;
+    usm_move_to_old(moved, (size_t)answer[1], back, sizeof back, answer);
+    if (refused("usm_move_to_old", answer))
+        return 0;
+    int same = answer[1] == file_len && memcmp(file, back, file_len) == 0;
+    printf("moved to the mark %.4s with account %u, and back: %s\n", (const char *)moved,
+           (unsigned)(moved[USM_BLOCK_ACCOUNT] + 256 * moved[USM_BLOCK_ACCOUNT + 1]),
+           same ? "the same" : "NOT the same");
+    return same;
+}
+
+static int read_back(const struct sheet *sheet, const uint8_t *file, size_t file_len)
+{
+    struct sheet back;
+    uint64_t answer[USM_ANSWER_NUMBERS], origin[USM_ORIGIN_NUMBERS];
+    usm_read_file(file, file_len, back.holdings, sizeof back.holdings, back.placement, sizeof back.placement,
+                  back.claims, sizeof back.claims, origin, answer);
+    if (refused("usm_read_file", answer))
+        return 0;
+    int same = memcmp(sheet, &back, sizeof back) == 0;
+    printf("read back %" PRIu64 " + %" PRIu64 " + %" PRIu64 " records, %s; form %" PRIu64 ", account %" PRIu64 "\n",
+           answer[1], answer[2], answer[3], same ? "the same" : "NOT the same",
+           origin[USM_ORIGIN_FORM], origin[USM_ORIGIN_ACCOUNT]);
+    return same;
+}
+
 /* The file of a sheet, and the way back. */
 static int write_and_read_back(const struct sheet *sheet)
 {
     uint8_t file[USM_LONGEST_FILE];
     uint64_t answer[USM_ANSWER_NUMBERS];
     usm_write_file(sheet->holdings, sizeof sheet->holdings, sheet->placement, sizeof sheet->placement,
-                   sheet->claims, sizeof sheet->claims, file, sizeof file, answer);
+                   sheet->claims, sizeof sheet->claims, USM_OLD_FORM, 0, file, sizeof file, answer);
     if (refused("usm_write_file", answer))
         return 0;
     size_t file_len = (size_t)answer[1];
-    if (!check_file(file, file_len))
-        return 0;
-
-    struct sheet back;
-    usm_read_file(file, file_len, back.holdings, sizeof back.holdings, back.placement, sizeof back.placement,
-                  back.claims, sizeof back.claims, answer);
-    if (refused("usm_read_file", answer))
-        return 0;
-    int same = memcmp(sheet, &back, sizeof back) == 0;
-    printf("read back %" PRIu64 " + %" PRIu64 " + %" PRIu64 " records, %s\n",
-           answer[1], answer[2], answer[3], same ? "the same" : "NOT the same");
-    return same;
+    return check_file(file, file_len) && move_and_move_back(file, file_len) && read_back(sheet, file, file_len);
 }
 
 /* A day's fills over the holdings: the short put is closed, a long call opened, and one fill refused. */
@@ -204,7 +226,7 @@ static int write_nothing(void)
 {
     uint8_t file[USM_BLOCK_BYTES];
     uint64_t answer[USM_ANSWER_NUMBERS];
-    usm_write_file(NULL, 0, NULL, 0, NULL, 0, file, sizeof file, answer);
+    usm_write_file(NULL, 0, NULL, 0, NULL, 0, USM_OLD_FORM, 0, file, sizeof file, answer);
     return !refused("usm_write_file", answer);
 }
 

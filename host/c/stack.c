@@ -14,7 +14,7 @@
 enum { STACK = 4 * USM_STACK_BYTES, PAINT = 0xA5 };
 
 static _Alignas(4096) uint8_t stack[STACK];
-static uint8_t file[USM_LONGEST_FILE];
+static uint8_t file[USM_LONGEST_FILE], moved[USM_LONGEST_FILE];
 static size_t file_len;
 static uint8_t holdings[USM_LEGS_BYTES], placement[USM_LEGS_BYTES], claims[USM_CLAIMS_BYTES];
 static uint32_t strikes[USM_MOST_LEGS];
@@ -23,7 +23,7 @@ static uint8_t fills[USM_MOST_FILLS * USM_RECORD_BYTES], result[USM_LEGS_BYTES],
 static uint32_t indices[USM_MOST_FILLS];
 static uint8_t line[USM_LINE_BYTES];
 static uint8_t text[USM_TABLE_BYTES];
-static uint64_t answer[USM_ANSWER_NUMBERS];
+static uint64_t answer[USM_ANSWER_NUMBERS], origin[USM_ORIGIN_NUMBERS];
 
 static void put(uint8_t *record, size_t at, size_t bytes, uint64_t value)
 {
@@ -75,13 +75,15 @@ static void check_file(void) { usm_check_file(file, file_len, answer); }
 static void read_file(void)
 {
     usm_read_file(file, file_len, holdings, sizeof holdings, placement, sizeof placement,
-                  claims, sizeof claims, answer);
+                  claims, sizeof claims, origin, answer);
 }
 static void write_file(void)
 {
     usm_write_file(holdings, sizeof holdings, placement, sizeof placement, claims, sizeof claims,
-                   file, sizeof file, answer);
+                   USM_OLD_FORM, 0, file, sizeof file, answer);
 }
+static void move_to_new(void) { usm_move_to_new(file, file_len, 7, moved, sizeof moved, answer); }
+static void move_to_old(void) { usm_move_to_old(moved, file_len, file, sizeof file, answer); }
 static void play_fills(void)
 {
     usm_play_fills(holdings, sizeof holdings, fills, sizeof fills, result, sizeof result,
@@ -119,7 +121,8 @@ static size_t used(void (*of)(void))
 int main(void)
 {
     static void (*const calls[])(void) = {
-        check_table, margin, margins, worksheet, check_sheet, check_file, read_file, write_file, play_fills,
+        check_table, margin, margins, worksheet, check_sheet, check_file, read_file, write_file,
+        move_to_new, move_to_old, play_fills,
     };
     make_tables();
     write_file();

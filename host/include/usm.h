@@ -9,7 +9,8 @@
  *   placement  0 to 256 leg records of 32 bytes, group 0 (not placed) or 1 to 32
  *   claims     0 to 32 claim records of 32 bytes
  *   fills      0 to 1,024 leg records of 32 bytes, group 0, with an action
- *   file       1 to 39 blocks of 512 bytes
+ *   file       1 to 39 blocks of 512 bytes, of the old form or of the new one, which has the
+ *              number of the account in each block
  *
  * All numbers in records and blocks are little-endian. Amounts are mills (1/1000 dollar).
  *
@@ -18,13 +19,13 @@
  *   Pointers    Slices pass as a pointer and a length. With length 0 the pointer is not looked
  *               at, and may be NULL: an empty table, or no room, is NULL and 0, or what an empty
  *               std::vector hands out. With any other length it points to so many entries,
- *               aligned as the type asks. `answer`, `line` and `text` are never NULL. Buffers lent for
+ *               aligned as the type asks. `answer`, `origin`, `line` and `text` are never NULL. Buffers lent for
  *               writing may overlap neither each other nor an input nor `answer`.
  *   Inputs      There is no other condition. Any bytes, any lengths, any numbers are
  *               answered.
  *   answer      Exactly four numbers, always written in full:
  *                 success  { 0, ... }  the results, as told at each call
- *                 refusal  { number, table, place, 0 }, number 1 to 19
+ *                 refusal  { number, table, place, 0 }, number 1 to 20
  *               table: 0 none, 1 holdings, 2 placement, 3 claims, 4 fills.
  *   Buffers     On a refusal nothing lent is written but `answer`, and the `line` and `text` of
  *               the two calls that print. On success what lies past the output stays as it was.
@@ -65,6 +66,8 @@
  *   18  a fill closes more contracts than are held                listed only
  *   19  more than 100,000 contracts of a line and side, or a      1, record;
  *       fill of a 257th line and side                             or listed
+ *   20  a block's account is zero or not the first block's;       0, block;
+ *       after 3 in each block; or a zero account supplied         or 0, 0
  */
 
 #ifndef USM_H
@@ -118,8 +121,15 @@ enum {
     USM_CLAIM_NOT_MARGIN = 16,
     USM_NO_ROOM = 17,
     USM_MORE_CLOSED_THAN_HELD = 18,
-    USM_TOO_MUCH_HELD = 19
+    USM_TOO_MUCH_HELD = 19,
+    USM_WRONG_ACCOUNT = 20
 };
+
+/* The forms of a file. */
+enum { USM_OLD_FORM = 1, USM_NEW_FORM = 2 };
+
+/* The two words of `origin`: form and account. */
+enum { USM_ORIGIN_FORM = 0, USM_ORIGIN_ACCOUNT = 1, USM_ORIGIN_NUMBERS = 2 };
 
 /* Where the fields of a leg record begin; each ends where the next begins, the filler with the record. */
 enum {
@@ -158,12 +168,13 @@ enum {
 
 /* Where the parts of a block begin; all other bytes are zero. */
 enum {
-    USM_BLOCK_MARK = 0,        /* 4 bytes: "USM1" */
+    USM_BLOCK_MARK = 0,        /* 4 bytes: "USM1" in the old form, "USM2" in the new */
     USM_BLOCK_KIND = 4,        /* 1 byte: the table's number */
     USM_BLOCK_COUNT = 5,       /* 1 byte: records in the block, 1 to 15 */
     USM_BLOCK_NUMBER = 6,      /* 2 bytes: from 0 */
     USM_BLOCK_BLOCKS = 8,      /* 2 bytes: blocks in the file */
     USM_BLOCK_RECORDS = 16,    /* 15 places of 32 bytes */
+    USM_BLOCK_ACCOUNT = 496,   /* 8 bytes: in the new form the account, not zero and the same in all blocks */
     USM_BLOCK_CHECK_A = 508,   /* 2 bytes: the sum of bytes 0 to 507, modulo 65,536 */
     USM_BLOCK_CHECK_B = 510    /* 2 bytes: the sum of (508 - i) times byte i, modulo 65,536 */
 };
@@ -220,18 +231,20 @@ void usm_check_sheet(const uint8_t *holdings, size_t holdings_len,
                      const uint8_t *claims, size_t claims_len, uint64_t *answer);
 
 /*
- * The verdict on a sheet file.
+ * The verdict on a sheet file of either form.
  *   success  { 0, groups, total margin, 0 }: the sheet is accepted
- *   refusals 1 about the file; 2 before 3 in each block, blocks in file order; then 4 to 16
- *            as usm_check_sheet.
+ *   refusals 1 about the file; 2, 3 and 20 in each block, in this order, blocks in file order;
+ *            then 4 to 16 as usm_check_sheet. A block of another form than the first is 3.
  */
 void usm_check_file(const uint8_t *file, size_t file_len, uint64_t *answer);
 
 /*
- * Takes a sheet file apart: each kind's records go to its lent table from byte 0.
+ * Takes a sheet file of either form apart: each kind's records go to its lent table from byte 0,
+ * and to origin, which is never NULL and has USM_ORIGIN_NUMBERS entries, the form (USM_OLD_FORM or
+ * USM_NEW_FORM) and the account, which is 0 in the old form.
  *   success  { 0, holdings records, placement records, claims records }; bytes past the
  *            records stay
- *   refusals 1 about the file; 2 and 3; 4 by table, then record; then 17 at the first
+ *   refusals 1 about the file; 2, 3 and 20; 4 by table, then record; then 17 at the first
  *            table (1, 2 or 3) that is too short, place the bytes it needs.
  * The lent tables may have any length; USM_LEGS_BYTES, USM_LEGS_BYTES and USM_CLAIMS_BYTES
  * are always enough.
@@ -239,19 +252,41 @@ void usm_check_file(const uint8_t *file, size_t file_len, uint64_t *answer);
 void usm_read_file(const uint8_t *file, size_t file_len,
                    uint8_t *holdings, size_t holdings_len,
                    uint8_t *placement, size_t placement_len,
-                   uint8_t *claims, size_t claims_len, uint64_t *answer);
+                   uint8_t *claims, size_t claims_len, uint64_t *origin, uint64_t *answer);
 
 /*
- * Writes three tables as a sheet file to out.
+ * Writes three tables as a sheet file of this form and account to out. In the old form the account
+ * is not looked at.
  *   success  { 0, bytes of the file, 0, 0 }; bytes past the file stay
- *   refusals 1 for any of the tables, or if all three are empty; 4 by table, then record;
+ *   refusals 1 for any of the tables, if all three are empty, or for a form other than 1 or 2;
+ *            20, table 0, place 0, for the account 0 in the new form; 4 by table, then record;
  *            17, table 0, place the bytes needed. USM_LONGEST_FILE is always enough.
  * Tables that no check would accept are written all the same.
  */
 void usm_write_file(const uint8_t *holdings, size_t holdings_len,
                     const uint8_t *placement, size_t placement_len,
-                    const uint8_t *claims, size_t claims_len,
+                    const uint8_t *claims, size_t claims_len, uint64_t form, uint64_t account,
                     uint8_t *out, size_t out_len, uint64_t *answer);
+
+/*
+ * Moves a sheet file of the old form to the new one, with this account in each block; all else stays.
+ * Moved back it is the same file.
+ *   success  { 0, bytes of the file, 0, 0 }; bytes past the file stay
+ *   refusals 1 about the file; 20, table 0, place 0, for the account 0; then all that usm_read_file
+ *            says of the file (2, 3, 20; 4); 3, table 0, place 0, for a file of the new form; 17,
+ *            table 0, place the bytes needed, which are as many as the file has.
+ */
+void usm_move_to_new(const uint8_t *file, size_t file_len, uint64_t account,
+                     uint8_t *out, size_t out_len, uint64_t *answer);
+
+/*
+ * Moves a sheet file of the new form to the old one, which has no account. Moved again to the new
+ * form, with the same account, it is the same file.
+ *   success  { 0, bytes of the file, 0, 0 }; bytes past the file stay
+ *   refusals as usm_move_to_new, without 20 for a supplied number; 3, table 0, place 0, is for a file of
+ *            the old form.
+ */
+void usm_move_to_old(const uint8_t *file, size_t file_len, uint8_t *out, size_t out_len, uint64_t *answer);
 
 /*
  * Plays the day's fills over yesterday's holdings, in order, as a ledger from line and side to contracts

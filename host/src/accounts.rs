@@ -48,6 +48,7 @@ pub fn in_group(group: u16, leg: Leg) -> Leg {
 /// The sheet that holds just what it places, and claims these margins for groups 1, 2, ...
 pub fn placed(placement: &[Leg], margins: &[i64]) -> Sheet {
     Sheet {
+        account: 0,
         holdings: placement.iter().map(|leg| in_group(0, *leg)).collect(),
         placement: placement.to_vec(),
         claims: (1..).zip(margins).map(|(group, &margin)| Claim { group, margin }).collect(),

@@ -1,8 +1,6 @@
 //! The blocks of a sheet file: their measures, for the model too, and ways to change one by hand,
 //! for samples and tests.
 
-/// What a block begins with.
-pub const MARK: [u8; 4] = *b"USM1";
 /// Bytes of a block.
 pub const BLOCK_BYTES: usize = 512;
 /// A file has 1 to this many blocks.
@@ -13,6 +11,10 @@ pub const LONGEST_FILE: usize = MOST_BLOCKS * BLOCK_BYTES;
 pub const RECORDS_AT: usize = 16;
 /// A block has 1 to this many records.
 pub const RECORDS_IN_BLOCK: usize = 15;
+/// Where in a block of the new form its account stands; in the old form the bytes are zero.
+pub const ACCOUNT_AT: usize = 496;
+/// Where the account ends; the bytes from here to the checks are zero.
+pub const ACCOUNT_END: usize = 504;
 /// Where in a block check A stands, and check B behind it.
 pub const CHECKS_AT: usize = 508;
 
@@ -25,6 +27,11 @@ pub fn seal(block: &mut [u8]) {
     }
     block[CHECKS_AT..CHECKS_AT + 2].copy_from_slice(&a.to_le_bytes());
     block[CHECKS_AT + 2..BLOCK_BYTES].copy_from_slice(&b.to_le_bytes());
+}
+
+/// The number in the account's place of a block.
+pub fn account_of(block: &[u8]) -> u64 {
+    u64::from_le_bytes(block[ACCOUNT_AT..ACCOUNT_END].try_into().expect("eight bytes"))
 }
 
 /// Makes every block's number, the count of blocks and the checks fit.

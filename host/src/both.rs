@@ -1,5 +1,6 @@
 //! The library and the model as two values of one type, to hold them against each other.
 
+use crate::form::Origin;
 use crate::records::Table;
 use crate::refusal::{Accepted, PlayCounts, RecordCounts, Refusal};
 use crate::{calls, model};
@@ -14,8 +15,10 @@ pub struct Calls {
     pub worksheet: fn(&[u8], u64, &mut [u32], &mut [i64]) -> Result<usize, Refusal>,
     pub check_sheet: fn(&[u8], &[u8], &[u8]) -> Result<Accepted, Refusal>,
     pub check_file: fn(&[u8]) -> Result<Accepted, Refusal>,
-    pub read_file: fn(&[u8], &mut [u8], &mut [u8], &mut [u8]) -> Result<RecordCounts, Refusal>,
-    pub write_file: fn(&[u8], &[u8], &[u8], &mut [u8]) -> Result<usize, Refusal>,
+    pub read_file: fn(&[u8], &mut [u8], &mut [u8], &mut [u8]) -> Result<(RecordCounts, Origin), Refusal>,
+    pub write_file: fn(&[u8], &[u8], &[u8], Origin, &mut [u8]) -> Result<usize, Refusal>,
+    pub move_to_new: fn(&[u8], u64, &mut [u8]) -> Result<usize, Refusal>,
+    pub move_to_old: fn(&[u8], &mut [u8]) -> Result<usize, Refusal>,
     pub play_fills: fn(&[u8], &[u8], &mut [u8], &mut [u32], &mut [u8]) -> Result<PlayCounts, Refusal>,
     pub file_line: fn(&[u8]) -> String,
     pub file_table: fn(&[u8]) -> String,
@@ -32,6 +35,8 @@ pub const LIBRARY: Calls = Calls {
     check_file: calls::check_file,
     read_file: calls::read_file,
     write_file: calls::write_file,
+    move_to_new: calls::move_to_new,
+    move_to_old: calls::move_to_old,
     play_fills: calls::play_fills,
     file_line: calls::file_line,
     file_table: calls::file_table,
@@ -48,6 +53,8 @@ pub const MODEL: Calls = Calls {
     check_file: model::check_file,
     read_file: model::read_file,
     write_file: model::write_file,
+    move_to_new: model::move_to_new,
+    move_to_old: model::move_to_old,
     play_fills: model::play_fills,
     file_line: model::file_line,
     file_table: model::file_table,

@@ -4,6 +4,7 @@
 //! lies past the output stays as it was.
 
 use crate::ffi;
+use crate::form::{Form, Origin};
 use crate::records::Table;
 use crate::refusal::{Accepted, PlayCounts, RecordCounts, Refusal};
 
@@ -85,9 +86,10 @@ pub fn check_file(file: &[u8]) -> Result<Accepted, Refusal> {
     ask(|answer| ffi::check_file(file, answer)).map(accepted)
 }
 
-/// Takes a sheet file apart: each kind's records from byte 0 of its lent table.
+/// Takes a sheet file of either form apart: each kind's records from byte 0 of its lent table. Answers how
+/// many there are, and where the file comes from.
 ///
-/// The lent tables may have any length. 1 to 4 about the file, then 17 at the first table
+/// The lent tables may have any length. 1 to 4 and 20 about the file, then 17 at the first table
 /// that is too short, with the bytes it needs.
 ///
 /// ```
@@ -101,35 +103,67 @@ pub fn read_file(
     holdings: &mut [u8],
     placement: &mut [u8],
     claims: &mut [u8],
-) -> Result<RecordCounts, Refusal> {
-    ask(|answer| ffi::read_file(file, holdings, placement, claims, answer)).map(
-        |[holdings, placement, claims]| RecordCounts {
-            holdings: holdings as usize,
-            placement: placement as usize,
-            claims: claims as usize,
-        },
-    )
+) -> Result<(RecordCounts, Origin), Refusal> {
+    let mut origin = [0; 2];
+    let [holdings, placement, claims] =
+        ask(|answer| ffi::read_file(file, holdings, placement, claims, &mut origin, answer))?;
+    let counts =
+        RecordCounts { holdings: holdings as usize, placement: placement as usize, claims: claims as usize };
+    let [form, account] = origin;
+    let form = Form::of_number(form).expect("the reader answers one of two forms");
+    Ok((counts, Origin { form, account }))
 }
 
-/// Writes three tables as a sheet file into `out`; answers its length in bytes.
+/// Writes three tables as a sheet file of this form and account into `out`; answers its length in bytes.
 ///
-/// 1 (also for three empty tables), 4, then 17 with the bytes needed. Tables that no check
-/// would accept are written all the same.
+/// 1 (also for three empty tables), 20 for the account 0 in the new form, 4, then 17 with the bytes needed.
+/// Tables that no check would accept are written all the same.
 ///
 /// ```
+/// use usm::{write_file, Origin};
 /// let claim = usm::Claim { group: 1, margin: 0 }.to_bytes();
 /// let mut out = [0; 600];
-/// assert_eq!(usm::write_file(&[], &[], &claim, &mut out), Ok(512));
+/// assert_eq!(write_file(&[], &[], &claim, Origin::OLD, &mut out), Ok(512));
 /// assert_eq!(&out[..4], b"USM1");
+/// assert_eq!(write_file(&[], &[], &claim, Origin::new(4711), &mut out), Ok(512));
+/// assert_eq!(&out[..4], b"USM2");
 /// ```
 pub fn write_file(
     holdings: &[u8],
     placement: &[u8],
     claims: &[u8],
+    origin: Origin,
     out: &mut [u8],
 ) -> Result<usize, Refusal> {
-    ask(|answer| ffi::write_file(holdings, placement, claims, out, answer))
+    let origin = [origin.form.number(), origin.account];
+    ask(|answer| ffi::write_file(holdings, placement, claims, origin, out, answer))
         .map(|[length, ..]| length as usize)
+}
+
+/// Moves a file of the old form to the new one, with this account, into `out`; answers its length in bytes.
+///
+/// 1; 20 for the account 0; then the reader's refusals; 3 at block 0 for a file of the new form; 17 with the
+/// bytes needed.
+///
+/// ```
+/// use usm::{move_to_new, move_to_old, write_file, Origin};
+/// let claim = usm::Claim { group: 1, margin: 0 }.to_bytes();
+/// let [mut old, mut new, mut back] = [[0; 512]; 3];
+/// write_file(&[], &[], &claim, Origin::OLD, &mut old)?;
+/// assert_eq!(move_to_new(&old, 4711, &mut new), Ok(512));
+/// assert_eq!(move_to_old(&new, &mut back), Ok(512));
+/// assert_eq!(back, old);
+/// # Ok::<(), usm::Refusal>(())
+/// ```
+pub fn move_to_new(file: &[u8], account: u64, out: &mut [u8]) -> Result<usize, Refusal> {
+    ask(|answer| ffi::move_to_new(file, account, out, answer)).map(|[length, ..]| length as usize)
+}
+
+/// Moves a file of the new form to the old one, which says no account, into `out`; answers its length.
+///
+/// The reader's refusals; 3 at block 0 for a file of the old form; 17 with the bytes needed.
+pub fn move_to_old(file: &[u8], out: &mut [u8]) -> Result<usize, Refusal> {
+    ask(|answer| ffi::move_to_old(file, out, answer)).map(|[length, ..]| length as usize)
 }
 
 /// Plays a table of fills over a table of holdings. The holdings that come out stand in `result` from byte 0;

@@ -61,6 +61,7 @@ extern "C" {
         placement_len: usize,
         claims: *mut u8,
         claims_len: usize,
+        origin: *mut u64,
         answer: *mut u64,
     );
 
@@ -71,10 +72,23 @@ extern "C" {
         placement_len: usize,
         claims: *const u8,
         claims_len: usize,
+        form: u64,
+        account: u64,
         out: *mut u8,
         out_len: usize,
         answer: *mut u64,
     );
+
+    fn usm_move_to_new(
+        file: *const u8,
+        file_len: usize,
+        account: u64,
+        out: *mut u8,
+        out_len: usize,
+        answer: *mut u64,
+    );
+
+    fn usm_move_to_old(file: *const u8, file_len: usize, out: *mut u8, out_len: usize, answer: *mut u64);
 
     fn usm_play_fills(
         holdings: *const u8,
@@ -151,6 +165,7 @@ pub fn read_file(
     holdings: &mut [u8],
     placement: &mut [u8],
     claims: &mut [u8],
+    origin: &mut [u64; 2],
     answer: &mut Answer,
 ) {
     unsafe {
@@ -163,12 +178,21 @@ pub fn read_file(
             placement.len(),
             claims.as_mut_ptr(),
             claims.len(),
+            origin.as_mut_ptr(),
             answer.as_mut_ptr(),
         )
     }
 }
 
-pub fn write_file(holdings: &[u8], placement: &[u8], claims: &[u8], out: &mut [u8], answer: &mut Answer) {
+/// The form and the account as the numbers that they are in C.
+pub fn write_file(
+    holdings: &[u8],
+    placement: &[u8],
+    claims: &[u8],
+    [form, account]: [u64; 2],
+    out: &mut [u8],
+    answer: &mut Answer,
+) {
     unsafe {
         usm_write_file(
             holdings.as_ptr(),
@@ -177,11 +201,23 @@ pub fn write_file(holdings: &[u8], placement: &[u8], claims: &[u8], out: &mut [u
             placement.len(),
             claims.as_ptr(),
             claims.len(),
+            form,
+            account,
             out.as_mut_ptr(),
             out.len(),
             answer.as_mut_ptr(),
         )
     }
+}
+
+pub fn move_to_new(file: &[u8], account: u64, out: &mut [u8], answer: &mut Answer) {
+    unsafe {
+        usm_move_to_new(file.as_ptr(), file.len(), account, out.as_mut_ptr(), out.len(), answer.as_mut_ptr())
+    }
+}
+
+pub fn move_to_old(file: &[u8], out: &mut [u8], answer: &mut Answer) {
+    unsafe { usm_move_to_old(file.as_ptr(), file.len(), out.as_mut_ptr(), out.len(), answer.as_mut_ptr()) }
 }
 
 pub fn play_fills(

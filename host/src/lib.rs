@@ -37,6 +37,7 @@ pub mod program;
 
 mod calls;
 mod fills;
+mod form;
 mod reason;
 mod records;
 mod refusal;
@@ -44,10 +45,11 @@ mod sheet;
 
 pub use block::{BLOCK_BYTES, LONGEST_FILE, MOST_BLOCKS};
 pub use calls::{
-    check_file, check_sheet, check_table, file_line, file_table, margin, margins, play_fills, read_file,
-    worksheet, write_file,
+    check_file, check_sheet, check_table, file_line, file_table, margin, margins, move_to_new, move_to_old,
+    play_fills, read_file, worksheet, write_file,
 };
 pub use fills::{fill_table, play, Played};
+pub use form::{Form, Origin};
 pub use reason::Reason;
 pub use records::{
     is_expiry, Action, Claim, Fill, Leg, Line, Market, OptionType, Series, Side, Style, Table, FILLS_TABLE,

@@ -50,11 +50,13 @@ pub enum Reason {
     MoreClosedThanHeld = 18,
     /// 19: more than 100,000 contracts of a line and side, or a fill of a 257th line and side.
     TooMuchHeld = 19,
+    /// 20: a block's account is zero or not that of the first block; or a zero account was supplied.
+    WrongAccount = 20,
 }
 
 impl Reason {
     /// All of them, in the order of their numbers.
-    pub const ALL: [Reason; 19] = [
+    pub const ALL: [Reason; 20] = [
         Reason::WrongSize,
         Reason::ChecksDiffer,
         Reason::BlockOutOfForm,
@@ -74,6 +76,7 @@ impl Reason {
         Reason::NoRoom,
         Reason::MoreClosedThanHeld,
         Reason::TooMuchHeld,
+        Reason::WrongAccount,
     ];
 
     /// Its number in documents 01 and 02.
@@ -92,10 +95,10 @@ mod tests {
     use super::*;
 
     #[test]
-    fn reasons_are_numbered_1_to_19() {
+    fn reasons_are_numbered_1_to_20() {
         let numbers: Vec<u64> = Reason::ALL.into_iter().map(Reason::number).collect();
-        assert_eq!(numbers, (1..=19).collect::<Vec<u64>>());
+        assert_eq!(numbers, (1..=20).collect::<Vec<u64>>());
         assert!(Reason::ALL.into_iter().all(|reason| Reason::of_number(reason.number()) == Some(reason)));
-        assert_eq!([0, 20, u64::MAX].map(Reason::of_number), [None; 3]);
+        assert_eq!([0, 21, u64::MAX].map(Reason::of_number), [None; 3]);
     }
 }

@@ -2,6 +2,7 @@
 
 use crate::block::LONGEST_FILE;
 use crate::calls;
+use crate::form::Origin;
 use crate::records::{Claim, Leg, Table, RECORD_BYTES};
 use crate::refusal::{Accepted, Refusal};
 
@@ -26,6 +27,7 @@ use crate::refusal::{Accepted, Refusal};
 /// };
 /// let short = Leg { side: Side::Short, strike: 50_000, ..long };
 /// let mut sheet = Sheet {
+///     account: 0,
 ///     holdings: vec![Leg { group: 0, ..long }, Leg { group: 0, ..short }],
 ///     placement: vec![long, short],
 ///     claims: vec![Claim { group: 1, margin: 1_000_000 }],
@@ -45,6 +47,8 @@ use crate::refusal::{Accepted, Refusal};
 /// ```
 #[derive(Clone, Debug, Default, PartialEq, Eq)]
 pub struct Sheet {
+    /// The account's number; 0 if the file does not say it, as those of the old form.
+    pub account: u64,
     /// What the account holds; every group is 0.
     pub holdings: Vec<Leg>,
     /// The same contracts, each leg in its group or in none.
@@ -101,20 +105,22 @@ impl Sheet {
         Ok(strikes.into_iter().zip(nets).take(rows).collect())
     }
 
-    /// The sheet as a file.
+    /// The sheet as a file: of the new form if it has an account, and of the old form otherwise.
     pub fn to_file(&self) -> Result<Vec<u8>, Refusal> {
         let Tables { holdings, placement, claims } = self.tables();
         let mut file = vec![0; LONGEST_FILE];
-        let length = calls::write_file(&holdings, &placement, &claims, &mut file)?;
+        let origin = Origin::of_account(self.account);
+        let length = calls::write_file(&holdings, &placement, &claims, origin, &mut file)?;
         file.truncate(length);
         Ok(file)
     }
 
-    /// The sheet in a file, judged only as far as the reader does (1 to 4).
+    /// The sheet in a file of either form, judged only as far as the reader does (1 to 4, 20).
     pub fn from_file(file: &[u8]) -> Result<Sheet, Refusal> {
         let [mut holdings, mut placement, mut claims] = Table::ALL.map(|table| vec![0; table.most_bytes()]);
-        let counts = calls::read_file(file, &mut holdings, &mut placement, &mut claims)?;
+        let (counts, origin) = calls::read_file(file, &mut holdings, &mut placement, &mut claims)?;
         Ok(Sheet {
+            account: origin.account,
             holdings: records(&holdings, counts.holdings, Leg::from_bytes),
             placement: records(&placement, counts.placement, Leg::from_bytes),
             claims: records(&claims, counts.claims, Claim::from_bytes),

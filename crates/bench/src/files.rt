@@ -1,4 +1,5 @@
 // The calls on files: write, file, table, read. Each prints its answer.
+ghost use Prim.Native.Nat.{_≤_};
 use crate::bytes::copy_to;
 use crate::calls::print_verdict;
 use crate::memory::base;
@@ -13,6 +14,8 @@ use crate::text::number;
 use crate::text::part;
 use crate::text::smaller;
 use blocks::Counts;
+use blocks::Form;
+use blocks::Origin;
 use blocks::Reading;
 use blocks::Writing;
 use verdicts::TABLE_BYTES;
@@ -31,13 +34,37 @@ pub(crate) fn kept(s: &[u8], from: usize) -> bool {
     true
 }
 
+// The form and the account of a line: its words from `k` on. A form other than 2 is the old one.
+pub(crate) fn origin_of(line: &[u8], k: usize) -> Origin
+    requires { ⌜ k ≤ 9 ⌝ }
+{
+    let account = number(line, k + 1) as u64;
+    if number(line, k) == 2 {
+        return Origin {
+            form: Form::New,
+            account,
+        };
+    }
+    Origin {
+        form: Form::Old,
+        account,
+    }
+}
+
 // Writes the three tables into `out`, and what was written into the file of the memory.
-fn print_written(memory: &mut [u8], sizes: &mut [usize], room: usize, out: &mut [u8]) {
+fn print_written(
+    memory: &mut [u8],
+    sizes: &mut [usize],
+    room: usize,
+    origin: Origin,
+    out: &mut [u8],
+) {
     let end = smaller(room, out.len());
     match blocks::write_file(
         table(memory, sizes, b'h'),
         table(memory, sizes, b'p'),
         table(memory, sizes, b'c'),
+        origin,
         &mut out[..end],
     ) {
         Writing::Wrote(n) => {
@@ -54,10 +81,10 @@ fn print_written(memory: &mut [u8], sizes: &mut [usize], room: usize, out: &mut 
     }
 }
 
-// Writes the file in a buffer of `room` bytes (at most 20,480).
-pub(crate) fn write(memory: &mut [u8], sizes: &mut [usize], room: usize) {
+// Writes the file in a buffer of so many bytes (at most 20,480).
+pub(crate) fn write(line: &[u8], memory: &mut [u8], sizes: &mut [usize]) {
     let mut out = [NO_BYTE; 20480];
-    print_written(memory, sizes, room, &mut out);
+    print_written(memory, sizes, number(line, 1), origin_of(line, 2), &mut out);
 }
 
 pub(crate) fn file(memory: &[u8], sizes: &[usize]) {
@@ -77,7 +104,7 @@ pub(crate) fn shown(memory: &[u8], sizes: &[usize]) {
 }
 
 // Whether the first n records that were read are the whole of a table.
-fn same(read: &[u8], n: usize, table: &[u8]) -> bool {
+pub(crate) fn same(read: &[u8], n: usize, table: &[u8]) -> bool {
     if table.len() / 32 != n {
         return false;
     }
@@ -133,7 +160,7 @@ fn print_reading(
         &mut p[..room_p],
         &mut c[..room_c],
     ) {
-        Reading::Read(counts) => print_tables(memory, sizes, counts, h, p, c),
+        Reading::Read(counts, _) => print_tables(memory, sizes, counts, h, p, c),
         Reading::Refused(refusal) => {
             print_refusal(refusal);
             print_kept(kept(h, 0) & kept(p, 0) & kept(c, 0));

@@ -16,7 +16,9 @@
 //   clear                   empty all
 //   try h|p|c ..            empty a table, append the record and check the table
 //   check T · margin G · margins N ROOM · worksheet G STRIKES NETS · sheet
-//   write ROOM · file · table · read ROOM ROOM ROOM
+//   write ROOM [FORM ACCOUNT] · file · table · read ROOM ROOM ROOM · judge
+//   to_new ACCOUNT ROOM · to_old ROOM    the file, moved, takes the file's place
+//   again [FORM ACCOUNT]    whether the tables, written, are the file
 //   play RESULT INDICES NUMBERS   play the fills over the holdings, in slices of so many entries; the
 //                           result becomes the holdings, and no fills are left. Of the rows the last
 //                           eight are printed, of the refused fills the first eight
@@ -27,6 +29,7 @@ mod edits;
 mod files;
 mod lists;
 mod memory;
+mod moves;
 mod print;
 mod seals;
 mod text;
@@ -82,7 +85,7 @@ fn ask_tables(line: &[u8], memory: &[u8], sizes: &[usize]) -> bool {
 // The commands on the file that answer, likewise.
 fn ask_files(line: &[u8], memory: &mut [u8], sizes: &mut [usize]) -> bool {
     if says(line, b"write") {
-        files::write(memory, sizes, number(line, 1));
+        files::write(line, memory, sizes);
         return true;
     }
     if says(line, b"file") {
@@ -95,6 +98,27 @@ fn ask_files(line: &[u8], memory: &mut [u8], sizes: &mut [usize]) -> bool {
     }
     if says(line, b"read") {
         files::read(line, memory, sizes);
+        return true;
+    }
+    false
+}
+
+// The commands on the file's form and account, likewise.
+fn ask_forms(line: &[u8], memory: &mut [u8], sizes: &mut [usize]) -> bool {
+    if says(line, b"judge") {
+        moves::judge(memory, sizes);
+        return true;
+    }
+    if says(line, b"to_new") {
+        moves::to_new(memory, sizes, number(line, 1), number(line, 2));
+        return true;
+    }
+    if says(line, b"to_old") {
+        moves::to_old(memory, sizes, number(line, 1));
+        return true;
+    }
+    if says(line, b"again") {
+        moves::again(line, memory, sizes);
         return true;
     }
     false
@@ -113,6 +137,9 @@ fn ask(line: &[u8], memory: &mut [u8], sizes: &mut [usize]) {
     }
     if says(line, b"play") {
         day::play(line, memory, sizes);
+        return;
+    }
+    if ask_forms(line, memory, sizes) {
         return;
     }
     print(b" ?\n");

@@ -6,28 +6,36 @@ use mathlib.Core.List.{List}
 use lib.ListN.{length, drop}
 use Rattle.records.specs.declared.refusals.Refusal.{Refusal}
 use Rattle.records.specs.declared.tables.Kind.{Kind}
-use Rattle.blocks.specs.File.{Tables, tableOf, tablesIn}
+use Rattle.blocks.specs.File.{Tables, tableOf, tablesIn, originIn}
 use Rattle.blocks.specs.Writer.{writeOf, filled}
 use Rattle.blocks.specs.Reader.{countsOf, readOf, leaves, copied}
-use Rattle.blocks.specs.declared.reader.Counts.{Counts}
-use Rattle.blocks.specs.declared.reader.Reading.the-variants.{Read, Refused}
-use Rattle.blocks.specs.declared.writer.Writing.the-variants.{Wrote, Refused as Refused-writing}
+use Rattle.blocks.specs.Moves.{moveOf}
+use Rattle.blocks.specs.declared.forms.Form.{Form}
+use Rattle.blocks.specs.declared.forms.Origin.{Origin}
+use Rattle.blocks.specs.declared.answers.Counts.{Counts}
+use Rattle.blocks.specs.declared.answers.Reading.the-variants.{Read, Refused}
+use Rattle.blocks.specs.declared.answers.Writing.the-variants.{Wrote, Refused as Refused-writing}
 
--- 'Nothing lent is written' on a refusal: where the reader refuses, each lent table is left as it was, and where the writer does, its
--- buffer
+-- 'Nothing lent is written' on a refusal: where the reader refuses, each lent table is left as it was, and where the writer or a
+-- move does, its buffer
 abbrev pub RefusedReadsNothing : Type 0
 RefusedReadsNothing = (file : List ℕ) (h p c : ℕ) (r : Refusal) → readOf file h p c ≡ Refused r
     → (kind : Kind) (lent : List ℕ) → leaves (readOf file h p c) kind file lent ≡ lent
 
 abbrev pub RefusedWritesNothing : Type 0
-RefusedWritesNothing = (t : Tables) (out : List ℕ) (r : Refusal) → writeOf t (length out) ≡ Refused-writing r
-    → filled (writeOf t (length out)) t out ≡ out
+RefusedWritesNothing = (o : Origin) (t : Tables) (out : List ℕ) (r : Refusal) → writeOf o t (length out) ≡ Refused-writing r
+    → filled (writeOf o t (length out)) o t out ≡ out
+
+abbrev pub RefusedMovesNothing : Type 0
+RefusedMovesNothing = (from : Form) (to : Origin) (file out : List ℕ) (r : Refusal) → moveOf from to file (length out) ≡ Refused-writing r
+    → filled (moveOf from to file (length out)) to (tablesIn file) out ≡ out
 
 -- 'In every call that succeeds, what lies past its output in a lent slice stays': past a table's records, read or only copied, and past
--- the file, whose length the writer answers
+-- the file, whose length the writer and a move answer
 abbrev pub PastRecordsStays : Type 0
-PastRecordsStays = (file : List ℕ) (h p c : ℕ) (n : Counts) → readOf file h p c ≡ Read n
+PastRecordsStays = (file : List ℕ) (h p c : ℕ) (n : Counts) (o : Origin) → readOf file h p c ≡ Read n o
     → (n ≡ countsOf (tablesIn file))
+    × (o ≡ originIn file)
     × ((kind : Kind) (lent : List ℕ)
     → (let past = length (tableOf kind (tablesIn file)) in drop past (leaves (readOf file h p c) kind file lent) ≡ drop past lent))
 
@@ -36,4 +44,9 @@ PastCopyStays = (kind : Kind) (file lent : List ℕ)
     → (let past = length (tableOf kind (tablesIn file)) in drop past (copied kind file lent) ≡ drop past lent)
 
 abbrev pub PastFileStays : Type 0
-PastFileStays = (t : Tables) (out : List ℕ) (n : ℕ) → writeOf t (length out) ≡ Wrote n → drop n (filled (writeOf t (length out)) t out) ≡ drop n out
+PastFileStays = (o : Origin) (t : Tables) (out : List ℕ) (n : ℕ) → writeOf o t (length out) ≡ Wrote n
+    → drop n (filled (writeOf o t (length out)) o t out) ≡ drop n out
+
+abbrev pub PastMovedStays : Type 0
+PastMovedStays = (from : Form) (to : Origin) (file out : List ℕ) (n : ℕ) → moveOf from to file (length out) ≡ Wrote n
+    → drop n (filled (moveOf from to file (length out)) to (tablesIn file) out) ≡ drop n out

@@ -9,7 +9,7 @@ use Rattle.records.specs.Legs.{legOf, legBytes, unitsOf, plusUnits, plus
 use Rattle.records.specs.Claims.{claimOf}
 use Rattle.records.specs.Lines.{sameLine, sameLineSide}
 use Rattle.records.specs.Order.{firstOf}
-use Rattle.records.specs.Tables.{tableNumber, goodRecord, wholeTable, wholeTables, fieldChecks, fieldsChecks, countedOf}
+use Rattle.records.specs.Tables.{tableNumber, goodRecord, inLimit, wholeTable, wholeTables, fieldChecks, fieldsChecks, countedOf}
 use Rattle.records.specs.declared.counts.Contracts.{Contracts}
 use Rattle.records.specs.declared.counts.Units.{Units}
 use Rattle.records.specs.declared.legs.Leg.{Leg}
@@ -63,6 +63,9 @@ good-record-unique kind part r s = one-outcome
 
 whole-table-unique : (kind : Kind) (bytes : ℕ) (r s : Bool) → r ≡ wholeTable kind bytes → s ≡ wholeTable kind bytes → r ≡ s
 whole-table-unique kind bytes r s = one-outcome
+
+in-limit-unique : (kind : Kind) (records : ℕ) (r s : Bool) → r ≡ inLimit kind records → s ≡ inLimit kind records → r ≡ s
+in-limit-unique kind records r s = one-outcome
 
 whole-tables-unique : (h p c : ℕ) (r s : Bool) → r ≡ wholeTables h p c → s ≡ wholeTables h p c → r ≡ s
 whole-tables-unique h p c r s = one-outcome

@@ -8,12 +8,15 @@ use Rattle.records.proofs.Unique.{one-outcome}
 use Rattle.records.specs.Written.{putAt}
 use Rattle.records.specs.declared.tables.Kind.{Kind}
 use Rattle.blocks.specs.File.{Tables}
+use Rattle.blocks.specs.Moves.{moveOf}
+use Rattle.blocks.specs.declared.forms.Form.{Form}
+use Rattle.blocks.specs.declared.forms.Origin.{Origin}
 use Rattle.spreads.specs.Calls.{marginCall}
 use Rattle.sheets.specs.Verdicts.{verdictOf}
 use Rattle.verdicts.specs.FileVerdicts.{fileVerdict}
 use Rattle.verdicts.specs.TableText.{tableText}
-use Rattle.usm_c.specs.Answers.{dueWords, verdictWords, tableWords}
-use Rattle.usm_c.specs.Outcomes.{marginsWords, marginsLeft, worksheetWords, strikesLeft, netsLeft, readWords, tableLeft, writeWords, outLeft, playWords, resultLeft, indicesLeft, numbersLeft, fileLine}
+use Rattle.usm_c.specs.Answers.{dueWords, verdictWords, writingWords, tableWords}
+use Rattle.usm_c.specs.Outcomes.{marginsWords, marginsLeft, worksheetWords, strikesLeft, netsLeft, readWords, tableLeft, originLeft, writeAs, outLeft, movedLeft, playWords, resultLeft, indicesLeft, numbersLeft, fileLine}
 
 -- ---- calls that leave an answer only
 
@@ -55,12 +58,22 @@ module _ (file : List ℕ) (t : Tables) where
   table-left-unique : (kind : Kind) (a b : List ℕ) → a ≡ tableLeft kind file t → b ≡ tableLeft kind file t → a ≡ b
   table-left-unique kind a b = one-outcome
 
-module _ (t : Tables) (out : List ℕ) where
-  write-file-unique : (a b : List ℕ) → a ≡ writeWords t out → b ≡ writeWords t out → a ≡ b
+  origin-left-unique : (before a b : List ℕ) → a ≡ originLeft file t before → b ≡ originLeft file t before → a ≡ b
+  origin-left-unique before a b = one-outcome
+
+module _ (form account : ℕ) (t : Tables) (out : List ℕ) where
+  write-file-unique : (a b : List ℕ) → a ≡ writingWords (writeAs form account t (length out)) → b ≡ writingWords (writeAs form account t (length out)) → a ≡ b
   write-file-unique a b = one-outcome
 
-  out-left-unique : (a b : List ℕ) → a ≡ outLeft t out → b ≡ outLeft t out → a ≡ b
+  out-left-unique : (a b : List ℕ) → a ≡ outLeft form account t out → b ≡ outLeft form account t out → a ≡ b
   out-left-unique a b = one-outcome
+
+module _ (from : Form) (to : Origin) (file out : List ℕ) where
+  move-unique : (a b : List ℕ) → a ≡ writingWords (moveOf from to file (length out)) → b ≡ writingWords (moveOf from to file (length out)) → a ≡ b
+  move-unique a b = one-outcome
+
+  moved-left-unique : (a b : List ℕ) → a ≡ movedLeft from to file out → b ≡ movedLeft from to file out → a ≡ b
+  moved-left-unique a b = one-outcome
 
 module _ (h f d i m : List ℕ) where
   play-fills-unique : (a b : List ℕ) → a ≡ playWords h f d i m → b ≡ playWords h f d i m → a ≡ b

@@ -5,16 +5,22 @@ ghost use mathlib.Core.Path.{_≡_};
 ghost use lib.ListN.{length};
 ghost use Rattle.records.specs.Written.{putAt};
 ghost use Rattle.records.specs.declared.tables.Kind.the-variants.{Holdings, Placement, Claims};
+ghost use Rattle.blocks.specs.Forms.{inOld, inNew};
 ghost use Rattle.blocks.specs.File.{tables};
+ghost use Rattle.blocks.specs.Moves.{moveOf};
+ghost use Rattle.blocks.specs.declared.forms.Form.the-variants.{Old, New};
 ghost use Rattle.spreads.specs.Calls.{marginCall};
 ghost use Rattle.sheets.specs.Verdicts.{verdictOf};
 ghost use Rattle.verdicts.specs.FileVerdicts.{fileVerdict};
 ghost use Rattle.verdicts.specs.TableText.{tableText};
-ghost use Rattle.usm_c.specs.Answers.{dueWords, verdictWords, tableWords};
-ghost use Rattle.usm_c.specs.Outcomes.{marginsWords, marginsLeft, worksheetWords, strikesLeft, netsLeft, readWords, tableLeft, writeWords, outLeft, playWords, resultLeft, indicesLeft, numbersLeft, fileLine};
+ghost use Rattle.usm_c.specs.Answers.{dueWords, verdictWords, writingWords, tableWords};
+ghost use Rattle.usm_c.specs.Outcomes.{marginsWords, marginsLeft, worksheetWords, strikesLeft, netsLeft, readWords, tableLeft, originLeft, writeAs, outLeft, movedLeft, playWords, resultLeft, indicesLeft, numbersLeft, fileLine};
 
+mod origins;
 mod words;
 
+use origins::put_origin;
+use origins::write_as;
 use verdicts::LINE_BYTES;
 use verdicts::TABLE_BYTES;
 use words::due_words;
@@ -87,36 +93,60 @@ pub extern "C" fn usm_check_file(file: &[u8], answer: &mut [u64; 4])
     *answer = verdict_words(verdicts::check_file(file));
 }
 
-// The records of a sheet file, into three lent tables.
+// The records of a sheet file, into three lent tables, and its form and account.
 #[no_mangle]
 pub extern "C" fn usm_read_file(
     file: &[u8],
     holdings: &mut [u8],
     placement: &mut [u8],
     claims: &mut [u8],
+    origin: &mut [u64; 2],
     answer: &mut [u64; 4],
 )
     ensures { λ _. ⌜ now (answer .exit) ≡ readWords (now (file .entry)) (tables (now (holdings .entry)) (now (placement .entry)) (now (claims .entry))) ⌝ }
     ensures { λ _. ⌜ now (holdings .exit) ≡ tableLeft Holdings (now (file .entry)) (tables (now (holdings .entry)) (now (placement .entry)) (now (claims .entry))) ⌝ }
     ensures { λ _. ⌜ now (placement .exit) ≡ tableLeft Placement (now (file .entry)) (tables (now (holdings .entry)) (now (placement .entry)) (now (claims .entry))) ⌝ }
     ensures { λ _. ⌜ now (claims .exit) ≡ tableLeft Claims (now (file .entry)) (tables (now (holdings .entry)) (now (placement .entry)) (now (claims .entry))) ⌝ }
+    ensures { λ _. ⌜ now (origin .exit) ≡ originLeft (now (file .entry)) (tables (now (holdings .entry)) (now (placement .entry)) (now (claims .entry))) (now (origin .entry)) ⌝ }
 {
-    *answer = reading_words(blocks::read_file(file, holdings, placement, claims));
+    let reading = blocks::read_file(file, holdings, placement, claims);
+    put_origin(reading, origin);
+    *answer = reading_words(reading);
 }
 
-// The file of three tables, into a lent buffer.
+// The file of three tables, in a form and of an account, into a lent buffer.
 #[no_mangle]
 pub extern "C" fn usm_write_file(
     holdings: &[u8],
     placement: &[u8],
     claims: &[u8],
+    form: u64,
+    account: u64,
     out: &mut [u8],
     answer: &mut [u64; 4],
 )
-    ensures { λ _. ⌜ now (answer .exit) ≡ writeWords (tables (now (holdings .entry)) (now (placement .entry)) (now (claims .entry))) (now (out .entry)) ⌝ }
-    ensures { λ _. ⌜ now (out .exit) ≡ outLeft (tables (now (holdings .entry)) (now (placement .entry)) (now (claims .entry))) (now (out .entry)) ⌝ }
+    ensures { λ _. ⌜ now (answer .exit) ≡ writingWords (writeAs form account (tables (now (holdings .entry)) (now (placement .entry)) (now (claims .entry))) (length (now (out .entry)))) ⌝ }
+    ensures { λ _. ⌜ now (out .exit) ≡ outLeft form account (tables (now (holdings .entry)) (now (placement .entry)) (now (claims .entry))) (now (out .entry)) ⌝ }
 {
-    *answer = writing_words(blocks::write_file(holdings, placement, claims, out));
+    *answer = writing_words(write_as(holdings, placement, claims, form, account, out));
+}
+
+// A file of the old form, in the new one with this account's number, into a lent buffer.
+#[no_mangle]
+pub extern "C" fn usm_move_to_new(file: &[u8], account: u64, out: &mut [u8], answer: &mut [u64; 4])
+    ensures { λ _. ⌜ now (answer .exit) ≡ writingWords (moveOf Old (inNew account) (now (file .entry)) (length (now (out .entry)))) ⌝ }
+    ensures { λ _. ⌜ now (out .exit) ≡ movedLeft Old (inNew account) (now (file .entry)) (now (out .entry)) ⌝ }
+{
+    *answer = writing_words(blocks::to_new(file, account, out));
+}
+
+// A file of the new form, in the old one, into a lent buffer.
+#[no_mangle]
+pub extern "C" fn usm_move_to_old(file: &[u8], out: &mut [u8], answer: &mut [u64; 4])
+    ensures { λ _. ⌜ now (answer .exit) ≡ writingWords (moveOf New inOld (now (file .entry)) (length (now (out .entry)))) ⌝ }
+    ensures { λ _. ⌜ now (out .exit) ≡ movedLeft New inOld (now (file .entry)) (now (out .entry)) ⌝ }
+{
+    *answer = writing_words(blocks::to_old(file, out));
 }
 
 // The day's fills played over holdings: the table that then stands, and which fills were refused.

@@ -66,7 +66,7 @@ pub(crate) fn reading_words(reading: Reading) -> [u64; 4]
     ensures { λ r. ⌜ r ≡ readingWords reading ⌝ }
 {
     match reading {
-        Reading::Read(counts) => done(
+        Reading::Read(counts, _) => done(
             counts.holdings as u64,
             counts.placement as u64,
             counts.claims as u64,

@@ -11,6 +11,7 @@ use Rattle.records.specs.declared.legs.Leg.{Leg}
 use Rattle.records.proofs.ListLaws.{all-append}
 use Rattle.records.proofs.Measures.{sum-append}
 use Rattle.blocks.specs.File.{tablesIn}
+use Rattle.blocks.proofs.Accounts.{moved-alike}
 use Rattle.spreads.specs.Spreads.{groupOf}
 use Rattle.spreads.specs.Strikes.{lossOf}
 use Rattle.spreads.specs.Boxes.{LongBox, halfOf, marginOf}
@@ -19,8 +20,8 @@ use Rattle.spreads.proofs.BoxLaws.{no-box-test, box-margin, other-margin}
 use Rattle.sheets.specs.Sheets.{claimFor, totalOf}
 use Rattle.sheets.proofs.Groups.{total, total-ext, total-claims}
 use Rattle.verdicts.specs.TableText.{shownOf, shownIn, tableText}
-use Rattle.verdicts.specs.TableDemands.{TableReadsBack, TableTotal, TableMargins, TableBoxes, RefusedPrints}
-use Rattle.verdicts.proofs.Demands.{file-just}
+use Rattle.verdicts.specs.TableDemands.{TableReadsBack, TableTotal, TableMargins, TableBoxes, MovedTable, RefusedPrints}
+use Rattle.verdicts.proofs.Demands.{file-just, moved-verdict}
 use Rattle.verdicts.proofs.ReadBack.{table-read}
 use Rattle.verdicts.proofs.Worksheets.{length-nets}
 
@@ -75,6 +76,10 @@ table-margins file n total e = rw (table-reads-back file n (pos total) e) (shown
 
 pub table-boxes : TableBoxes
 table-boxes file n total e = rw (table-reads-back file n (pos total) e) (shown-boxes (legsOf (tablesIn file .placement)) n)
+
+pub moved-table : MovedTable
+unfolding tableText
+moved-table from to file out n a x = rw (moved-verdict from to file out n a x, moved-alike from to file out n a x .1)
 
 pub refused-prints : RefusedPrints
 unfolding tableText

@@ -1,12 +1,19 @@
--- What is demanded of the table: document 02, [1]. The proofs stand in proofs/TableDemands.antt.
+-- What is demanded of the table: document 02, [1], and of a moved file's, [6]. The proofs stand in proofs/TableDemands.antt.
 use mathlib.Core.Path.{_≡_}
 use mathlib.Core.List.{List}
 use Prim.Native.Nat.{ℕ}
 use lib.IntN.{ℤ, pos}
+use lib.ListN.{length, take}
 use Rattle.records.specs.Lists.{sumOf, most, All}
 use Rattle.records.specs.Tables.{legsOf}
 use Rattle.records.specs.declared.refusals.Refusal.{Refusal}
 use Rattle.blocks.specs.File.{tablesIn}
+use Rattle.blocks.specs.Writer.{filled}
+use Rattle.blocks.specs.Moves.{moveOf}
+use Rattle.blocks.specs.RoundTrips.{AllBytes}
+use Rattle.blocks.specs.declared.forms.Form.{Form}
+use Rattle.blocks.specs.declared.forms.Origin.{Origin}
+use Rattle.blocks.specs.declared.answers.Writing.the-variants.{Wrote}
 use Rattle.spreads.specs.Spreads.{groupIn}
 use Rattle.spreads.specs.Strikes.{lossOf}
 use Rattle.spreads.specs.Boxes.{LongBox, halfOf}
@@ -35,6 +42,11 @@ TableMargins = (file : List ℕ) (n total : ℕ) → fileVerdict file ≡ Accept
 abbrev pub TableBoxes : Type 0
 TableBoxes = (file : List ℕ) (n total : ℕ) → fileVerdict file ≡ Accepted n (pos total)
     → All (λ s. (b : LongBox (groupIn (tablesIn file .placement) (s .group))) → s .margin ≡ halfOf (b .units) (b .low) (b .high)) (tableIn (tableText file))
+
+-- request [6]: a file that was moved prints what it printed
+abbrev pub MovedTable : Type 0
+MovedTable = (from : Form) (to : Origin) (file out : List ℕ) (n : ℕ) → AllBytes file → moveOf from to file (length out) ≡ Wrote n
+    → tableText (take n (filled (Wrote n) to (tablesIn file) out)) ≡ tableText file
 
 -- 'A refused sheet prints only its REFUSE line'
 abbrev pub RefusedPrints : Type 0

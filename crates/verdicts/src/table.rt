@@ -5,13 +5,11 @@ ghost use Prim.Native.Nat.{_+_, _≤_, _/_};
 ghost use lib.ListN.{length};
 ghost use Rattle.records.specs.Tables.{legsOf};
 ghost use Rattle.records.specs.Written.{putAt};
-ghost use Rattle.blocks.specs.Reader.{judged};
-ghost use Rattle.blocks.specs.declared.reader.Reading.the-variants.{Read};
 ghost use Rattle.spreads.specs.Spreads.{groupIn};
 ghost use Rattle.spreads.specs.Boxes.{marginOf};
 ghost use Rattle.verdicts.specs.Printed.{Piece};
 ghost use Rattle.verdicts.specs.TableText.{groupLine, groupText, shownIn, shownOf, shownText, strikeLine, strikeLines, tableText};
-ghost use Rattle.verdicts.specs.Steps.{Answered, ShownBy, worksheetLines};
+ghost use Rattle.verdicts.specs.Steps.{Answered, HasRecords, ShownBy, worksheetLines};
 use crate::file::check_copied;
 use crate::line::refuse_line;
 use crate::pieces::put_amount;
@@ -104,7 +102,7 @@ fn put_groups(placement: &[u8], claims: &[u8], out: &mut [u8; TABLE_BYTES]) -> u
 
 // The text of a file without a fault, by its tables.
 fn read_table(counts: Counts, file: &[u8], out: &mut [u8; TABLE_BYTES]) -> usize
-    requires { ⌜ judged (now file) ≡ Read counts ⌝ }
+    requires { ⌜ HasRecords (now file) counts ⌝ }
     ensures { λ r. ⌜ Piece (now (out .entry)) 0 (tableText (now (file .entry))) r (now (out .exit)) ⌝ }
 {
     let mut holdings = [0u8; RECORD_BYTES * MOST_LEGS];
@@ -118,7 +116,7 @@ fn read_table(counts: Counts, file: &[u8], out: &mut [u8; TABLE_BYTES]) -> usize
     }
 }
 
-// Puts the table of a sheet file at the start of `out` and answers its length, or the REFUSE line of a
+// Puts the table of a sheet file of either form at the start of `out` and answers its length, or the REFUSE line of a
 // refused one; the bytes past it stay. The file is read and judged once.
 pub fn table_text(file: &[u8], out: &mut [u8; TABLE_BYTES]) -> usize
     ensures { λ r. ⌜ r ≡ length (tableText (now (file .entry))) ⌝ }
@@ -126,6 +124,6 @@ pub fn table_text(file: &[u8], out: &mut [u8; TABLE_BYTES]) -> usize
 {
     match blocks::judge_file(file) {
         Reading::Refused(refusal) => refuse_line(refusal, out),
-        Reading::Read(counts) => read_table(counts, file, out),
+        Reading::Read(counts, _) => read_table(counts, file, out),
     }
 }

@@ -1,14 +1,17 @@
 //! "The file": 1 to 39 blocks of 512 bytes.
 
 use super::tables::Tables;
-use crate::block::{BLOCK_BYTES, CHECKS_AT, MARK, MOST_BLOCKS, RECORDS_AT, RECORDS_IN_BLOCK};
+use crate::block::{
+    ACCOUNT_AT, ACCOUNT_END, BLOCK_BYTES, CHECKS_AT, MOST_BLOCKS, RECORDS_AT, RECORDS_IN_BLOCK,
+};
+use crate::form::{Form, Origin};
 use crate::records::{Table, RECORD_BYTES};
 use crate::refusal::Refusal;
 
-/// The records of a file by kind, as bytes, before their fields are looked at.
-#[derive(Default)]
+/// The records of a file by kind, as bytes, before their fields are looked at; and where it comes from.
 pub struct Parts {
     by_kind: [Vec<u8>; 3],
+    pub origin: Origin,
 }
 
 impl Parts {
@@ -18,20 +21,30 @@ impl Parts {
     }
 }
 
-/// Takes a file apart: 1 for its size, then 2 before 3 in each block, in file order.
-pub fn parts(file: &[u8]) -> Result<Parts, Refusal> {
+/// Refusal 1 of a file: empty, not whole blocks, or too many.
+pub fn check_size(file: &[u8]) -> Result<(), Refusal> {
     let blocks = file.len() / BLOCK_BYTES;
     if file.len() % BLOCK_BYTES != 0 || !(1..=MOST_BLOCKS).contains(&blocks) {
         return Err(Refusal::new(1, 0, 0));
     }
-    let mut parts = Parts::default();
+    Ok(())
+}
+
+/// Takes a file apart: 1 for its size, then 2, 3 and 20 in each block, in file order.
+pub fn parts(file: &[u8]) -> Result<Parts, Refusal> {
+    check_size(file)?;
+    let blocks = file.len() / BLOCK_BYTES;
+    // A first block with neither mark counts as old, and is out of form there.
+    let form = if file.starts_with(b"USM2") { Form::New } else { Form::Old };
+    let first = if form == Form::New { account(file) } else { 0 };
+    let mut parts = Parts { by_kind: Default::default(), origin: Origin { form, account: first } };
     let mut previous: Option<Header> = None;
     for (number, block) in file.chunks_exact(BLOCK_BYTES).enumerate() {
         if checks(block) != (u16_at(block, CHECKS_AT), u16_at(block, CHECKS_AT + 2)) {
             return Err(Refusal::new(2, 0, number as u64));
         }
         let out_of_form = Refusal::new(3, 0, number as u64);
-        let header = header(block, number, blocks).ok_or(out_of_form)?;
+        let header = header(block, form, number, blocks).ok_or(out_of_form)?;
         if previous.map_or(false, |previous| !may_follow(previous, header)) {
             return Err(out_of_form);
         }
@@ -39,6 +52,9 @@ pub fn parts(file: &[u8]) -> Result<Parts, Refusal> {
         table.extend_from_slice(&block[RECORDS_AT..header.records_end()]);
         if table.len() > header.kind.most_bytes() {
             return Err(out_of_form);
+        }
+        if form == Form::New && (account(block) == 0 || account(block) != first) {
+            return Err(Refusal::new(20, 0, number as u64));
         }
         previous = Some(header);
     }
@@ -57,17 +73,32 @@ impl Header {
     }
 }
 
-/// The header of block `number` of `blocks`, if all but the records is in form.
-fn header(block: &[u8], number: usize, blocks: usize) -> Option<Header> {
+/// The header of block `number` of `blocks`, if all but the records and the account is in this form.
+fn header(block: &[u8], form: Form, number: usize, blocks: usize) -> Option<Header> {
     let kind = *Table::ALL.iter().find(|kind| **kind as u8 == block[4])?;
     let header = Header { kind, records: usize::from(block[5]) };
-    let in_form = block[0..4] == MARK
+    let in_form = block[0..4] == *mark(form)
         && (1..=RECORDS_IN_BLOCK).contains(&header.records)
         && usize::from(u16_at(block, 6)) == number
         && usize::from(u16_at(block, 8)) == blocks
         && is_zero(&block[10..RECORDS_AT])
-        && is_zero(&block[header.records_end()..CHECKS_AT]);
+        && is_zero(&block[header.records_end()..ACCOUNT_AT])
+        && (form == Form::New || is_zero(&block[ACCOUNT_AT..ACCOUNT_END]))
+        && is_zero(&block[ACCOUNT_END..CHECKS_AT]);
     in_form.then_some(header)
+}
+
+/// What a block of this form begins with.
+fn mark(form: Form) -> &'static [u8; 4] {
+    match form {
+        Form::Old => b"USM1",
+        Form::New => b"USM2",
+    }
+}
+
+/// Bytes 496 to 503 of a block.
+fn account(block: &[u8]) -> u64 {
+    (ACCOUNT_AT..ACCOUNT_END).rev().fold(0, |number, at| number << 8 | u64::from(block[at]))
 }
 
 /// Kinds never fall, and only a kind's last block may be short.
@@ -90,18 +121,21 @@ fn contents<'a>(tables: &Tables<'a>) -> impl Iterator<Item = (Table, &'a [u8])> 
         .flat_map(move |(kind, table)| table.chunks(full).map(move |records| (kind, records)))
 }
 
-/// Fills a buffer of just that length.
-pub fn fill(tables: &Tables, out: &mut [u8]) {
+/// Fills a buffer of just that length, in a form that says the account or in the one that does not.
+pub fn fill(tables: &Tables, origin: Origin, out: &mut [u8]) {
     let blocks = (out.len() / BLOCK_BYTES) as u16;
     let places = out.chunks_exact_mut(BLOCK_BYTES);
     for (number, ((kind, records), block)) in contents(tables).zip(places).enumerate() {
         block.fill(0);
-        block[0..4].copy_from_slice(&MARK);
+        block[0..4].copy_from_slice(mark(origin.form));
         block[4] = kind as u8;
         block[5] = (records.len() / RECORD_BYTES) as u8;
         block[6..8].copy_from_slice(&(number as u16).to_le_bytes());
         block[8..10].copy_from_slice(&blocks.to_le_bytes());
         block[RECORDS_AT..RECORDS_AT + records.len()].copy_from_slice(records);
+        if origin.form == Form::New {
+            block[ACCOUNT_AT..ACCOUNT_END].copy_from_slice(&origin.account.to_le_bytes());
+        }
         let (a, b) = checks(block);
         block[CHECKS_AT..CHECKS_AT + 2].copy_from_slice(&a.to_le_bytes());
         block[CHECKS_AT + 2..].copy_from_slice(&b.to_le_bytes());

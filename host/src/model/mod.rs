@@ -12,6 +12,7 @@ mod spread;
 mod table;
 mod tables;
 
+use crate::form::{Form, Origin};
 use crate::records::{Table, RECORD_BYTES};
 use crate::refusal::{Accepted, RecordCounts, Refusal};
 use tables::Tables;
@@ -64,13 +65,13 @@ pub fn check_file(file: &[u8]) -> Result<Accepted, Refusal> {
     sheet::judge(&parts.tables().decode()?)
 }
 
-/// Takes a sheet file apart into three lent tables.
+/// Takes a sheet file apart into three lent tables; answers also where it comes from.
 pub fn read_file(
     file: &[u8],
     holdings: &mut [u8],
     placement: &mut [u8],
     claims: &mut [u8],
-) -> Result<RecordCounts, Refusal> {
+) -> Result<(RecordCounts, Origin), Refusal> {
     let parts = file::parts(file)?;
     let tables = parts.tables();
     tables.decode()?;
@@ -83,11 +84,12 @@ pub fn read_file(
     for (room, (_, records)) in lent.into_iter().zip(tables.in_order()) {
         room[..records.len()].copy_from_slice(records);
     }
-    Ok(RecordCounts {
+    let counts = RecordCounts {
         holdings: tables.holdings.len() / RECORD_BYTES,
         placement: tables.placement.len() / RECORD_BYTES,
         claims: tables.claims.len() / RECORD_BYTES,
-    })
+    };
+    Ok((counts, parts.origin))
 }
 
 /// Writes three tables as a sheet file into a lent buffer and answers its length.
@@ -95,6 +97,7 @@ pub fn write_file(
     holdings: &[u8],
     placement: &[u8],
     claims: &[u8],
+    origin: Origin,
     out: &mut [u8],
 ) -> Result<usize, Refusal> {
     let tables = Tables { holdings, placement, claims };
@@ -102,11 +105,43 @@ pub fn write_file(
     if tables.are_empty() {
         return Err(Refusal::new(1, 0, 0));
     }
+    if origin.form == Form::New && origin.account == 0 {
+        return Err(Refusal::new(20, 0, 0));
+    }
     tables.decode()?;
-    let length = file::length(&tables);
+    written(&tables, origin, out)
+}
+
+/// The file of these tables, or 17.
+fn written(tables: &Tables, origin: Origin, out: &mut [u8]) -> Result<usize, Refusal> {
+    let length = file::length(tables);
     let room = out.get_mut(..length).ok_or(Refusal::new(17, 0, length as u64))?;
-    file::fill(&tables, room);
+    file::fill(tables, origin, room);
     Ok(length)
+}
+
+/// Moves a file of the old form to the new one, with this account.
+pub fn move_to_new(file: &[u8], account: u64, out: &mut [u8]) -> Result<usize, Refusal> {
+    file::check_size(file)?;
+    if account == 0 {
+        return Err(Refusal::new(20, 0, 0));
+    }
+    moved(file, Form::Old, Origin { form: Form::New, account }, out)
+}
+
+/// Moves a file of the new form to the old one.
+pub fn move_to_old(file: &[u8], out: &mut [u8]) -> Result<usize, Refusal> {
+    moved(file, Form::New, Origin { form: Form::Old, account: 0 }, out)
+}
+
+/// The reader's refusals, then 3 at block 0 for a file of another form than the move is from, then 17.
+fn moved(file: &[u8], from: Form, to: Origin, out: &mut [u8]) -> Result<usize, Refusal> {
+    let parts = file::parts(file)?;
+    parts.tables().decode()?;
+    if parts.origin.form != from {
+        return Err(Refusal::new(3, 0, 0));
+    }
+    written(&parts.tables(), to, out)
 }
 
 /// Plays fills over holdings; lists those that are refused.

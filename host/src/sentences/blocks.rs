@@ -1,6 +1,9 @@
-//! Refusals 2 and 3: what is wrong with a block.
+//! Refusals 2, 3 and 20: what is wrong with a block.
 
-use crate::block::{BLOCK_BYTES, CHECKS_AT, MARK, RECORDS_AT, RECORDS_IN_BLOCK};
+use crate::block::{
+    account_of, ACCOUNT_AT, ACCOUNT_END, BLOCK_BYTES, CHECKS_AT, RECORDS_AT, RECORDS_IN_BLOCK,
+};
+use crate::form::Form;
 use crate::numbers::{count, ordinal};
 use crate::reason::Reason;
 use crate::records::{Table, RECORD_BYTES};
@@ -11,21 +14,53 @@ pub fn sentence(file: &[u8], refusal: &Refusal) -> Option<String> {
     let block = file.chunks_exact(BLOCK_BYTES).nth(number)?;
     let blocks = file.len() / BLOCK_BYTES;
     let which = format!("the {} of {}", ordinal(refusal.place), count(blocks as u64, "block"));
-    if refusal.reason() == Some(Reason::ChecksDiffer) {
-        return Some(format!("{which} is damaged: its check sums do not fit its bytes"));
+    match refusal.reason() {
+        Some(Reason::ChecksDiffer) => {
+            return Some(format!("{which} is damaged: its check sums do not fit its bytes"));
+        }
+        Some(Reason::WrongAccount) => {
+            return account_fault(file, block).map(|fault| format!("{which} {fault}"))
+        }
+        _ => {}
     }
-    let fault = header_fault(block, number, blocks).or_else(|| order_fault(file, number))?;
+    let first = Form::of_block(file).unwrap_or(Form::Old);
+    let fault = mark_fault(block, first)
+        .or_else(|| header_fault(block, first, number, blocks))
+        .or_else(|| order_fault(file, number))?;
     Some(format!("{which} is out of form: {fault}"))
 }
 
-/// A fault of the block by itself.
-fn header_fault(block: &[u8], number: usize, blocks: usize) -> Option<String> {
+/// Another account than the first block's, or none.
+fn account_fault(file: &[u8], block: &[u8]) -> Option<String> {
+    match (account_of(block), account_of(file)) {
+        (0, _) => Some(String::from("has the account number 0; accounts are numbered from 1")),
+        (this, first) if this != first => Some(format!(
+            "is of account {this}, and the first block of account {first}: two accounts are joined"
+        )),
+        _ => None,
+    }
+}
+
+/// No mark, or another one than the first block has.
+fn mark_fault(block: &[u8], first: Form) -> Option<String> {
+    let name = |form: Form| String::from_utf8_lossy(&form.mark()).into_owned();
+    match Form::of_block(block) {
+        None => Some(String::from("it does not begin with the mark `USM1` or `USM2`")),
+        Some(form) if form != first => Some(format!(
+            "it begins with the mark `{}` and the first block with `{}`",
+            name(form),
+            name(first)
+        )),
+        Some(_) => None,
+    }
+}
+
+/// A fault of the block by itself, behind its mark.
+fn header_fault(block: &[u8], form: Form, number: usize, blocks: usize) -> Option<String> {
     let (kind, records) = (block[4], usize::from(block[5]));
     let u16_at = |at: usize| usize::from(u16::from_le_bytes([block[at], block[at + 1]]));
     let zero = |bytes: &[u8]| bytes.iter().all(|&byte| byte == 0);
-    if block[..4] != MARK {
-        Some(String::from("it does not begin with the mark `USM1`"))
-    } else if table_of(kind).is_none() {
+    if table_of(kind).is_none() {
         Some(format!("its kind is {kind}, not 1 (holdings), 2 (placement) or 3 (claims)"))
     } else if !(1..=RECORDS_IN_BLOCK).contains(&records) {
         Some(format!("it says that it has {}, not 1 to {RECORDS_IN_BLOCK}", count(records as u64, "record")))
@@ -35,7 +70,10 @@ fn header_fault(block: &[u8], number: usize, blocks: usize) -> Option<String> {
         Some(format!("it says that the file has {}, not {blocks}", count(u16_at(8) as u64, "block")))
     } else if !zero(&block[10..RECORDS_AT]) {
         Some(String::from("its bytes 10 to 15 are not zero"))
-    } else if !zero(&block[RECORDS_AT + records * RECORD_BYTES..CHECKS_AT]) {
+    } else if !zero(&block[RECORDS_AT + records * RECORD_BYTES..ACCOUNT_AT])
+        || !zero(&block[ACCOUNT_END..CHECKS_AT])
+        || form == Form::Old && account_of(block) != 0
+    {
         Some(format!("bytes behind its {} are not zero", count(records as u64, "record")))
     } else {
         None

@@ -6,6 +6,7 @@ mod boxes;
 mod fields;
 mod fills;
 mod groups;
+mod moves;
 mod rules;
 mod short;
 mod size;
@@ -16,6 +17,7 @@ use crate::sheet::Sheet;
 
 pub use boxes::of_box;
 pub use fills::of_fills;
+pub use moves::of_move;
 pub(crate) use short::short;
 
 /// The sentence of a refusal that the check of this file, or its reader, answered.
@@ -34,7 +36,9 @@ pub fn of_file(file: &[u8], refusal: &Refusal) -> String {
         Some(Reason::ChecksDiffer | Reason::BlockOutOfForm) if refusal.place == 0 => {
             size::text_sentence(file).or_else(|| blocks::sentence(file, refusal))
         }
-        Some(Reason::ChecksDiffer | Reason::BlockOutOfForm) => blocks::sentence(file, refusal),
+        Some(Reason::ChecksDiffer | Reason::BlockOutOfForm | Reason::WrongAccount) => {
+            blocks::sentence(file, refusal)
+        }
         Some(Reason::FieldOutOfRange) => fields::sentence(file, refusal),
         _ => Sheet::from_file(file).ok().map(|sheet| of_sheet(&sheet, refusal)),
     };

@@ -37,6 +37,9 @@ pub fn short(refusal: &Refusal, reason: Reason) -> String {
             format!("no room to list refused fills: {} entries are needed", refusal.place)
         }
         Reason::NoRoom => format!("no room for the {table}: {} bytes are needed", refusal.place),
+        Reason::WrongAccount => format!(
+            "the {place} block's account is zero or not that of the first block; or the account supplied is zero"
+        ),
         Reason::MoreClosedThanHeld => format!("{record} closes more contracts than are held"),
         Reason::TooMuchHeld if refusal.table == FILLS_TABLE => {
             format!("{record} is of a 257th line and side, or makes more than 100,000 contracts of one")

@@ -1,6 +1,7 @@
 //! Refusal 1 of a file, by case; and texts, which are no sheet files of whatever size.
 
-use crate::block::{BLOCK_BYTES, LONGEST_FILE, MARK, MOST_BLOCKS};
+use crate::block::{BLOCK_BYTES, LONGEST_FILE, MOST_BLOCKS};
+use crate::form::Form;
 use crate::numbers::{count, grouped};
 use crate::text::is_section;
 
@@ -51,5 +52,5 @@ fn as_text(file: &[u8]) -> Option<&str> {
         Err(_) => return None,
     };
     let plain = |c: char| !c.is_control() || c.is_ascii_whitespace();
-    (!text.is_empty() && !file.starts_with(&MARK) && text.chars().all(plain)).then_some(text)
+    (!text.is_empty() && Form::of_block(file).is_none() && text.chars().all(plain)).then_some(text)
 }

@@ -39,7 +39,9 @@ to three decimals, expiry, `unit` and the unit size, `underlying` and its number
 (american, european), market (listed, otc). In the placement `group` and its number, or
 the word `unplaced`, come first. A claim is the group and its margin in mills (1/1000
 dollar), as the checker prints them. A section may be left out or empty; each stands at
-most once, in this order. Blanks are free, `#` starts a comment, empty lines do not count.
+most once, in this order. Before them a line `account` and its number may stand: then the
+sheet file is of the new form, which says it in each block. Blanks are free, `#` starts a
+comment, empty lines do not count.
 ";
 
 /// The text format of a day's fills.

@@ -70,6 +70,7 @@ impl Reading {
             None => return Ok(()),
         };
         match section_named(first) {
+            _ if first == "account" => self.account(&mut words)?,
             Some(next) => self.open(next, &mut words)?,
             None if self.section == Section::Start => return self.before_sections(&words),
             None => self.record(&mut words)?,
@@ -89,6 +90,16 @@ impl Reading {
         Ok(())
     }
 
+    /// The number of the account, before the first section.
+    fn account(&mut self, words: &mut Words) -> Result<(), TextError> {
+        if self.section != Section::Start || self.sheet.account != 0 {
+            return Err(words.error("the account at most once, and before the sections"));
+        }
+        words.skip();
+        self.sheet.account = words.number("the number of an account", 1..=u64::MAX)?;
+        Ok(())
+    }
+
     /// A text that is no sheet at all is told so once.
     fn before_sections(&mut self, words: &Words) -> Result<(), TextError> {
         if self.told_of_start {
@@ -99,7 +110,7 @@ impl Reading {
     }
 
     fn record(&mut self, words: &mut Words) -> Result<(), TextError> {
-        let Sheet { holdings, placement, claims } = &mut self.sheet;
+        let Sheet { holdings, placement, claims, .. } = &mut self.sheet;
         match self.section {
             Section::Start | Section::Holdings => add(holdings, MOST_LEGS, "holdings", words, holding),
             Section::Placement => add(placement, MOST_LEGS, "records in the placement", words, placed_leg),
@@ -189,6 +200,20 @@ mod tests {
         assert_eq!(sheet.placement.len(), 1);
         assert_eq!(sheet.placement[0].group, 0);
         assert_eq!(parse(""), Ok(Sheet::default()));
+    }
+
+    #[test]
+    fn an_account_stands_before_the_sections() {
+        let sheet = parse("# mine\naccount 18446744073709551615\nholdings\n").unwrap();
+        assert_eq!(sheet, Sheet { account: u64::MAX, ..Sheet::default() });
+        assert_eq!(
+            error_of("account 0\nholdings\naccount 7"),
+            "line 1, column 9: expected the number of an account from 1 to 18446744073709551615, found `0`\n\
+             line 3, column 1: expected the account at most once, and before the sections, found `account`"
+        );
+        let twice =
+            "line 2, column 1: expected the account at most once, and before the sections, found `account`";
+        assert_eq!(error_of("account 7\naccount 7"), twice);
     }
 
     #[test]

@@ -16,7 +16,11 @@ use crate::sheet::Sheet;
 /// assert_eq!(text::parse(&text::show(&sheet)), Ok(sheet));
 /// ```
 pub fn show(sheet: &Sheet) -> String {
-    let mut text = show_holdings(&sheet.holdings);
+    let mut text = match sheet.account {
+        0 => String::new(),
+        account => format!("account {account}\n\n"),
+    };
+    text.push_str(&show_holdings(&sheet.holdings));
     text.push_str("\nplacement\n");
     for leg in &sheet.placement {
         line(&mut text, format!("{:<8}  {}", place_text(leg.group), leg_words(leg)));

@@ -3,7 +3,7 @@
 use usm::accounts::{in_group, leg, placed};
 use usm::block::{seal, BLOCK_BYTES, RECORDS_AT};
 use usm::both::BOTH;
-use usm::{Leg, RecordCounts, Sheet, RECORD_BYTES};
+use usm::{Leg, Origin, RecordCounts, Sheet, RECORD_BYTES};
 
 use crate::refusal;
 
@@ -126,7 +126,7 @@ fn the_reader_names_the_first_short_table_and_its_need() {
         ([639, 0, 0], refusal(17, 1, 640)),
         ([640, 639, 0], refusal(17, 2, 640)),
         ([641, 640, 31], refusal(17, 3, 32)),
-        ([640, 640, 32], Ok(counts)),
+        ([640, 640, 32], Ok((counts, Origin::OLD))),
     ] {
         for calls in &BOTH {
             let [mut holdings, mut placement, mut claims] = rooms.map(|room| vec![7; room]);

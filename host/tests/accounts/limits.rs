@@ -3,7 +3,7 @@
 use usm::accounts::{fullest, in_group, leg, placed};
 use usm::block::LONGEST_FILE;
 use usm::both::BOTH;
-use usm::{leg_table, Accepted, Leg, Refusal, Sheet, Side, Table};
+use usm::{leg_table, Accepted, Leg, Origin, Refusal, Sheet, Side, Table};
 
 use crate::{assert_line, assert_margin, assert_verdict, refusal};
 
@@ -67,7 +67,8 @@ fn groups_are_1_to_32() {
 fn empty_tables_are_a_sheet_but_no_file() {
     assert_verdict(&Sheet::default(), Ok(FREE));
     for calls in &BOTH {
-        assert_eq!((calls.write_file)(&[], &[], &[], &mut [0; 512]), refusal(1, 0, 0), "{}", calls.name);
+        let written = (calls.write_file)(&[], &[], &[], Origin::OLD, &mut [0; 512]);
+        assert_eq!(written, refusal(1, 0, 0), "{}", calls.name);
         assert_eq!((calls.file_line)(&[]), "REFUSE 1 0 0\n", "{}", calls.name);
         assert_eq!((calls.file_line)(&[0; 19_969]), "REFUSE 1 0 0\n", "{}", calls.name);
     }

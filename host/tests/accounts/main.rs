@@ -7,13 +7,14 @@ mod bench;
 mod boxes;
 mod files;
 mod fills;
+mod forms;
 mod limits;
 mod look_right;
 mod minis;
 
 use usm::block::LONGEST_FILE;
 use usm::both::{Calls, BOTH};
-use usm::{leg_table, Accepted, Leg, Refusal, Sheet, Tables};
+use usm::{leg_table, Accepted, Leg, Origin, Refusal, Sheet, Tables};
 
 pub fn refusal<T>(number: u64, table: u64, place: u64) -> Result<T, Refusal> {
     Err(Refusal::new(number, table, place))
@@ -45,13 +46,16 @@ pub fn assert_verdict(sheet: &Sheet, expected: Result<Accepted, Refusal>) {
     }
 }
 
-/// The checker prints this line for the sheet's file, by library and model.
+/// The checker prints this line for the sheet's file, in either form, by library and model.
 #[track_caller]
 pub fn assert_line(sheet: &Sheet, line: &str) {
     let Tables { holdings, placement, claims } = sheet.tables();
     for calls in &BOTH {
-        let mut file = [0; LONGEST_FILE];
-        let length = (calls.write_file)(&holdings, &placement, &claims, &mut file).expect("a file");
-        assert_eq!((calls.file_line)(&file[..length]), format!("{line}\n"), "{}", calls.name);
+        for origin in [Origin::OLD, Origin::new(7)] {
+            let mut file = [0; LONGEST_FILE];
+            let length =
+                (calls.write_file)(&holdings, &placement, &claims, origin, &mut file).expect("a file");
+            assert_eq!((calls.file_line)(&file[..length]), format!("{line}\n"), "{}", calls.name);
+        }
     }
 }

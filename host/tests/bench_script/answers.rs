@@ -3,7 +3,7 @@
 use usm::both::Calls;
 use usm::fields::{get, CONTRACTS, SIDE, STRIKE, TYPE};
 use usm::lent::Lent;
-use usm::{PlayCounts, Refusal, Table, RECORD_BYTES};
+use usm::{Form, Origin, PlayCounts, Refusal, Table, LONGEST_FILE, RECORD_BYTES};
 
 use crate::memory::Memory;
 
@@ -77,20 +77,61 @@ pub fn table(calls: &Calls, memory: &Memory) -> String {
     format!("{}\n{}", kept(true), (calls.file_table)(&memory.file)).trim_end().to_string()
 }
 
+/// The tables as a file of this form and account, by their numbers.
+fn written(calls: &Calls, memory: &Memory, origin: [u64; 2], out: &mut [u8]) -> Result<usize, Refusal> {
+    let Memory { holdings, placement, claims, .. } = memory;
+    let [form, account] = origin;
+    // The calls of Rust have no other form than the two; by its number it would be refusal 1.
+    let form = Form::of_number(form).ok_or(Refusal::new(1, 0, 0))?;
+    (calls.write_file)(holdings, placement, claims, Origin { form, account }, out)
+}
+
 /// What is written becomes the file; after a refusal there is none.
-pub fn write(calls: &Calls, memory: &mut Memory, room: usize) -> String {
+pub fn write(calls: &Calls, memory: &mut Memory, room: usize, origin: [u64; 2]) -> String {
     let mut out: Lent<u8> = Lent::of_length(room);
-    let answer = (calls.write_file)(&memory.holdings, &memory.placement, &memory.claims, out.slice());
+    let answer = written(calls, memory, origin, out.slice());
     let length = answer.unwrap_or(0);
     memory.file = out.slice()[..length].to_vec();
     format!("{} {}", told(answer, |length| length.to_string()), kept(out.stayed_past(length)))
+}
+
+/// Whether the tables, written in this form, are the file.
+pub fn again(calls: &Calls, memory: &Memory, origin: [u64; 2]) -> String {
+    let mut out = vec![0; LONGEST_FILE];
+    let length = written(calls, memory, origin, &mut out);
+    let same = length.map_or(false, |length| out[..length] == memory.file);
+    String::from(if same { "same" } else { "DIFFERENT" })
+}
+
+/// The file, moved to the new form with this account, or to the old one without, takes the file's place; a
+/// refusal leaves it.
+pub fn moved(calls: &Calls, memory: &mut Memory, account: Option<u64>, room: usize) -> String {
+    let mut out: Lent<u8> = Lent::of_length(room);
+    let answer = match account {
+        Some(account) => (calls.move_to_new)(&memory.file, account, out.slice()),
+        None => (calls.move_to_old)(&memory.file, out.slice()),
+    };
+    let kept = kept(out.stayed_past(answer.unwrap_or(0)));
+    if let Ok(length) = answer {
+        memory.file = out.slice()[..length].to_vec();
+    }
+    format!("{} {kept}", told(answer, |length| length.to_string()))
+}
+
+/// The records of each kind, the form and the account that the reader finds in the file.
+pub fn judge(calls: &Calls, memory: &Memory) -> String {
+    let [mut h, mut p, mut c] = Table::ALL.map(|table| vec![0; table.most_bytes()]);
+    told((calls.read_file)(&memory.file, &mut h, &mut p, &mut c), |(counts, origin)| {
+        let (form, account) = (origin.form.number(), origin.account);
+        format!("{} {} {} {form} {account}", counts.holdings, counts.placement, counts.claims)
+    })
 }
 
 /// Tables of so many bytes are lent, and compared with those of the memory.
 pub fn read(calls: &Calls, memory: &Memory, rooms: [usize; 3]) -> String {
     let [mut h, mut p, mut c] = rooms.map(Lent::<u8>::of_length);
     let answer = (calls.read_file)(&memory.file, h.slice(), p.slice(), c.slice());
-    let counts = answer.map_or([0; 3], |counts| [counts.holdings, counts.placement, counts.claims]);
+    let counts = answer.map_or([0; 3], |(counts, _)| [counts.holdings, counts.placement, counts.claims]);
     let [held, placed, claimed] = counts.map(|records| records * RECORD_BYTES);
     let kept = kept(h.stayed_past(held) && p.stayed_past(placed) && c.stayed_past(claimed));
     let said = told(answer, |_| {

@@ -72,7 +72,11 @@ fn ask(calls: &Calls, memory: &mut Memory, words: &[&str]) -> Result<String, Str
         ["sheet"] => answers::sheet(calls, memory),
         ["file"] => answers::file(calls, memory),
         ["table"] => answers::table(calls, memory),
-        ["write", room] => answers::write(calls, memory, number(room)?),
+        ["write", room, ref origin @ ..] => answers::write(calls, memory, number(room)?, numbers(origin)?),
+        ["again", ref origin @ ..] => answers::again(calls, memory, numbers(origin)?),
+        ["judge"] => answers::judge(calls, memory),
+        ["to_new", account, room] => answers::moved(calls, memory, Some(number(account)?), number(room)?),
+        ["to_old", room] => answers::moved(calls, memory, None, number(room)?),
         ["play", result, indices, numbers] => {
             answers::play(calls, memory, [number(result)?, number(indices)?, number(numbers)?])
         }
@@ -90,6 +94,16 @@ fn append(memory: &mut Memory, table: &str, record: &[&str]) -> Result<(), Strin
 fn check(calls: &Calls, memory: &mut Memory, table: &str) -> Result<String, String> {
     let which = table_named(table)?;
     Ok(answers::check(calls, which, memory.table(which)))
+}
+
+/// A form and an account: without them it is the old form, which has none.
+fn numbers(origin: &[&str]) -> Result<[u64; 2], String> {
+    match *origin {
+        [] => Ok([1, 0]),
+        [form] => Ok([number(form)?, 0]),
+        [form, account] => Ok([number(form)?, number(account)?]),
+        _ => Err(String::from("no such command")),
+    }
 }
 
 fn number<T: FromStr>(word: &str) -> Result<T, String> {

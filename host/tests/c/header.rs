@@ -3,7 +3,7 @@
 use std::collections::{BTreeMap, BTreeSet};
 
 use usm::ffi::{Answer, LINE_BYTES, TABLE_BYTES};
-use usm::{block, fields, Action, Market, OptionType, Reason, Side, Style, Table};
+use usm::{block, fields, Action, Form, Market, OptionType, Reason, Side, Style, Table};
 
 const HEADER: &str = include_str!("../../include/usm.h");
 
@@ -80,6 +80,9 @@ fn terms_tables_and_sizes_have_rusts_numbers() {
         ("USM_OPEN", Action::Open as usize),
         ("USM_CLOSE", Action::Close as usize),
         ("USM_MOST_FILLS", usm::MOST_FILLS),
+        ("USM_OLD_FORM", Form::Old as usize),
+        ("USM_NEW_FORM", Form::New as usize),
+        ("USM_BLOCK_ACCOUNT", block::ACCOUNT_AT),
         ("USM_ANSWER_NUMBERS", Answer::default().len()),
         ("USM_RECORD_BYTES", usm::RECORD_BYTES),
         ("USM_MOST_LEGS", usm::MOST_LEGS),
@@ -107,7 +110,7 @@ fn a_block_begins_as_the_header_says() {
     let file = usm::accounts::fullest().to_file().expect("a file");
     let at = |name: &str| constant(name) as usize;
     let last = &file[file.len() - block::BLOCK_BYTES..];
-    assert_eq!(last[at("USM_BLOCK_MARK")..][..4], block::MARK);
+    assert_eq!(last[at("USM_BLOCK_MARK")..][..4], *b"USM1");
     assert_eq!(last[at("USM_BLOCK_KIND")], Table::Claims as u8);
     assert_eq!(last[at("USM_BLOCK_COUNT")], 2);
     assert_eq!(last[at("USM_BLOCK_NUMBER")], 38);
@@ -127,7 +130,7 @@ fn calls_named_in(source: &str) -> BTreeSet<&str> {
 #[test]
 fn the_header_and_the_rust_declarations_name_the_same_calls() {
     let header = calls_named_in(HEADER);
-    assert_eq!(header.len(), 11, "{header:?}");
+    assert_eq!(header.len(), 13, "{header:?}");
     assert_eq!(header, calls_named_in(include_str!("../../src/ffi.rs")));
 }
 

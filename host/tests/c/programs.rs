@@ -20,7 +20,8 @@ GROUP 1 1000000
 GROUP 2 500000
 65000 0
 70000 -500000
-read back 4 + 4 + 2 records, the same
+moved to the mark USM2 with account 4711, and back: the same
+read back 4 + 4 + 2 records, the same; form 1, account 0
 after the day 4 records, 1 fills refused
 fill 1: refusal 18
 usm_margin: refusal 6, table 2, place 3
@@ -51,7 +52,7 @@ fn the_c_example_prints_what_it_says() {
 
 #[test]
 fn empty_slices_may_be_null() {
-    let printed = "128 calls with empty slices, 0 wrong\n";
+    let printed = "144 calls with empty slices, 0 wrong\n";
     assert_prints(&run(&c_compiler(), C, "empty.c"), printed);
     if let Some(compiler) = cxx_compiler() {
         assert_prints(&run(&compiler, CXX, "empty.c"), printed);

@@ -142,6 +142,11 @@ fn every_line_has_its_sentence() {
             "refused, number 16, table 3 (claims), place 32: the claim of group 32 is not the group's margin",
         ),
         (
+            "REFUSE 20 0 2",
+            "refused, number 20, table 0 (no table), place 2: \
+             block 2 (the 3rd) has no account, or another one than the first block",
+        ),
+        (
             "REFUSE 99 7 1",
             "refused, number 99, table 7 (unknown), place 1: no sentence is known for this number",
         ),

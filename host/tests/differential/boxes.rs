@@ -19,7 +19,7 @@ pub fn sheet(random: &mut Random) -> Sheet {
     let holdings = placement.iter().map(|leg| in_group(0, *leg)).collect();
     let claims =
         (1..=groups).map(|group| Claim { group, margin: claimed(random, &placement, group) }).collect();
-    Sheet { holdings, placement, claims }
+    Sheet { holdings, placement, claims, ..Sheet::default() }
 }
 
 /// Mostly the margin; at times what someone would claim who rounds, halves or recognises a box otherwise.

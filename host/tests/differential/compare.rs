@@ -5,7 +5,7 @@ use std::fmt::{Debug, Display};
 
 use usm::ffi::{self, Answer, LINE_BYTES, TABLE_BYTES};
 use usm::lent::Lent;
-use usm::{model, PlayCounts, Refusal, Table, Tables, RECORD_BYTES};
+use usm::{model, Form, Origin, PlayCounts, Refusal, Table, Tables, RECORD_BYTES};
 
 use crate::fills::Day;
 
@@ -95,13 +95,41 @@ pub fn check_sheet(case: &dyn Display, tables: &Tables) -> u64 {
     same(case, "usm_check_sheet", answer, numbers(&expected, |sheet| [sheet.groups, sheet.total as u64, 0]))
 }
 
-pub fn write_file(case: &dyn Display, tables: &Tables, room: usize) -> u64 {
+/// The form and the account are numbers here, so that there may be another form than the two.
+pub fn write_file(case: &dyn Display, tables: &Tables, [form, account]: [u64; 2], room: usize) -> u64 {
     let Tables { holdings, placement, claims } = tables;
-    let call = format!("usm_write_file, room {room}");
+    let call = format!("usm_write_file, form {form}, account {account}, room {room}");
     let mut out = Lent::of_length(room);
     let mut expected_out = out.clone();
-    let answer = answer_of(|answer| ffi::write_file(holdings, placement, claims, out.slice(), answer));
-    let expected = model::write_file(holdings, placement, claims, expected_out.slice());
+    let answer = answer_of(|answer| {
+        ffi::write_file(holdings, placement, claims, [form, account], out.slice(), answer)
+    });
+    let expected = match Form::of_number(form) {
+        Some(form) => {
+            model::write_file(holdings, placement, claims, Origin { form, account }, expected_out.slice())
+        }
+        None => Err(Refusal::new(1, 0, 0)),
+    };
+    same_buffer(case, &call, &out, &expected_out, expected.unwrap_or(0));
+    same(case, &call, answer, numbers(&expected, |length| [length as u64, 0, 0]))
+}
+
+pub fn move_to_new(case: &dyn Display, file: &[u8], account: u64, room: usize) -> u64 {
+    let call = format!("usm_move_to_new, account {account}, room {room}");
+    let mut out = Lent::of_length(room);
+    let mut expected_out = out.clone();
+    let answer = answer_of(|answer| ffi::move_to_new(file, account, out.slice(), answer));
+    let expected = model::move_to_new(file, account, expected_out.slice());
+    same_buffer(case, &call, &out, &expected_out, expected.unwrap_or(0));
+    same(case, &call, answer, numbers(&expected, |length| [length as u64, 0, 0]))
+}
+
+pub fn move_to_old(case: &dyn Display, file: &[u8], room: usize) -> u64 {
+    let call = format!("usm_move_to_old, room {room}");
+    let mut out = Lent::of_length(room);
+    let mut expected_out = out.clone();
+    let answer = answer_of(|answer| ffi::move_to_old(file, out.slice(), answer));
+    let expected = model::move_to_old(file, expected_out.slice());
     same_buffer(case, &call, &out, &expected_out, expected.unwrap_or(0));
     same(case, &call, answer, numbers(&expected, |length| [length as u64, 0, 0]))
 }
@@ -117,20 +145,22 @@ pub fn read_file(case: &dyn Display, file: &[u8], rooms: [usize; 3]) -> u64 {
     let mut lent = rooms.map(Lent::of_length);
     let mut expected_lent = lent.clone();
     let [holdings, placement, claims] = &mut lent;
-    let answer =
-        answer_of(|answer| ffi::read_file(file, holdings.slice(), placement.slice(), claims.slice(), answer));
+    let mut origin = [UNWRITTEN; 4];
+    let answer = answer_of(|answer| {
+        let origin = (&mut origin[1..3]).try_into().expect("two numbers");
+        ffi::read_file(file, holdings.slice(), placement.slice(), claims.slice(), origin, answer)
+    });
     let [holdings, placement, claims] = &mut expected_lent;
     let expected = model::read_file(file, holdings.slice(), placement.slice(), claims.slice());
-    let outputs = expected.map_or([0; 3], |counts| [counts.holdings, counts.placement, counts.claims]);
+    let outputs = expected.map_or([0; 3], |(counts, _)| [counts.holdings, counts.placement, counts.claims]);
+    let expected_origin =
+        expected.map_or([UNWRITTEN; 2], |(_, Origin { form, account })| [form.number(), account]);
+    let [form, account] = expected_origin;
+    assert_eq!(origin, [UNWRITTEN, form, account, UNWRITTEN], "{case}: {call}: where the file comes from");
     for ((library, model), records) in lent.iter().zip(&expected_lent).zip(outputs) {
         same_buffer(case, &call, library, model, records * RECORD_BYTES);
     }
-    same(
-        case,
-        &call,
-        answer,
-        numbers(&expected, |counts| [counts.holdings as u64, counts.placement as u64, counts.claims as u64]),
-    )
+    same(case, &call, answer, numbers(&expected, |_| outputs.map(|records| records as u64)))
 }
 
 /// `listed` is told the number of each refused fill.

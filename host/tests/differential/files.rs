@@ -1,18 +1,30 @@
 //! Sheet files, and damage to them: by the mail, by a tool, or by someone who mends the checks.
 
-use usm::block::{renumber, seal, BLOCK_BYTES, CHECKS_AT, MARK, RECORDS_AT, RECORDS_IN_BLOCK};
-use usm::{Tables, RECORD_BYTES};
+use usm::block::{
+    account_of, renumber, seal, ACCOUNT_AT, ACCOUNT_END, BLOCK_BYTES, CHECKS_AT, RECORDS_AT, RECORDS_IN_BLOCK,
+};
+use usm::{Form, Origin, Tables, RECORD_BYTES};
 
 use crate::random::Random;
 
+/// Of either form; accounts whose bytes are all in use, or only one of them.
+pub fn origin(random: &mut Random) -> Origin {
+    match random.below(4) {
+        0 | 1 => Origin::OLD,
+        2 => Origin::new(random.pick(&[1, 7, 256, 1 << 32, 1 << 56, 1 << 63, u64::MAX])),
+        _ => Origin::new(random.next().max(1)),
+    }
+}
+
 /// The file of these tables. The records may be out of range, which no writer would let
 /// pass; that is why this does not call one.
-pub fn of(tables: &Tables) -> Vec<u8> {
+pub fn of(tables: &Tables, origin: Origin) -> Vec<u8> {
     let mut file = Vec::new();
     for (kind, table) in tables.in_order() {
         for records in table.chunks(RECORDS_IN_BLOCK * RECORD_BYTES) {
             let mut block = [0; BLOCK_BYTES];
-            block[..4].copy_from_slice(&MARK);
+            block[..4].copy_from_slice(&origin.form.mark());
+            block[ACCOUNT_AT..ACCOUNT_END].copy_from_slice(&origin.account.to_le_bytes());
             block[4] = kind as u8;
             block[5] = records.chunks(RECORD_BYTES).len() as u8;
             block[RECORDS_AT..RECORDS_AT + records.len()].copy_from_slice(records);
@@ -20,6 +32,20 @@ pub fn of(tables: &Tables) -> Vec<u8> {
         }
     }
     renumber(&mut file);
+    file
+}
+
+/// Blocks of two files of the same sheet, which differ in form or account, as a mail tool would join them;
+/// with a little luck all of one.
+pub fn joined(random: &mut Random, tables: &Tables) -> Vec<u8> {
+    let (one, two) = (origin(random), origin(random));
+    let (mut file, other) = (of(tables, one), of(tables, two));
+    let often = random.pick(&[2, 4, 40]);
+    for (block, from) in file.chunks_exact_mut(BLOCK_BYTES).zip(other.chunks_exact(BLOCK_BYTES)) {
+        if random.one_in(often) {
+            block.copy_from_slice(from);
+        }
+    }
     file
 }
 
@@ -31,7 +57,7 @@ pub fn damage(random: &mut Random, file: &mut Vec<u8>) {
         return;
     }
     let at = random.below(blocks) * BLOCK_BYTES;
-    match random.below(12) {
+    match random.below(15) {
         0 => file[at + random.below(BLOCK_BYTES)] ^= 1 << random.below(8),
         1 => {
             file[at + random.below(BLOCK_BYTES)] ^= 1 << random.below(8);
@@ -52,8 +78,30 @@ pub fn damage(random: &mut Random, file: &mut Vec<u8>) {
         }
         8 | 9 => header_field(random, &mut file[at..at + BLOCK_BYTES]),
         10 => unused_byte(random, &mut file[at..at + BLOCK_BYTES]),
+        11 => other_account(random, &mut file[at..at + BLOCK_BYTES]),
+        12 => other_form(random, &mut file[at..at + BLOCK_BYTES]),
+        13 => file.chunks_exact_mut(BLOCK_BYTES).for_each(|block| other_form(random, block)),
         _ => past_the_limit(random, file),
     }
+}
+
+/// The account's bytes say something else, in a block of either form.
+fn other_account(random: &mut Random, block: &mut [u8]) {
+    let old = account_of(block);
+    let bit = 1 << random.below(64);
+    let new: u64 = random.pick(&[0, 1, old ^ bit, old.wrapping_add(1), old.swap_bytes()]);
+    block[ACCOUNT_AT..ACCOUNT_END].copy_from_slice(&new.to_le_bytes());
+    seal(block);
+}
+
+/// The mark of the other form; the account stays, goes or comes.
+fn other_form(random: &mut Random, block: &mut [u8]) {
+    let form = if block.starts_with(&Form::Old.mark()) { Form::New } else { Form::Old };
+    block[..4].copy_from_slice(&form.mark());
+    if random.one_in(2) {
+        block[ACCOUNT_AT..ACCOUNT_END].copy_from_slice(&(form.number() - 1).to_le_bytes());
+    }
+    seal(block);
 }
 
 /// Mostly the numbers and checks are made to fit again.
@@ -84,8 +132,9 @@ fn swap_blocks(random: &mut Random, file: &mut [u8]) {
 
 /// Bytes 0 to 15: mark, kind, records, number, blocks, zeros.
 fn header_field(random: &mut Random, block: &mut [u8]) {
+    let random_byte = random.below(256);
     let (at, value) = match random.below(8) {
-        0 => (random.below(4), random.below(256)),
+        0 => (random.below(4), random.pick(&[0, 49, 50, 51, random_byte])),
         1 => (4, random.below(5)),
         2 => (5, random.pick(&[0, 1, 14, 15, 16, 255])),
         3 => (5, usize::from(block[5]).wrapping_sub(1)),

@@ -6,9 +6,11 @@ use std::fmt::Display;
 
 use usm::fields::records;
 use usm::{
-    check_table, play_fills, Claim, Leg, OptionType, PlayCounts, Sheet, Side, Style, Table, RECORD_BYTES,
+    check_file, check_table, move_to_new, move_to_old, play_fills, Claim, Form, Leg, OptionType, Origin,
+    PlayCounts, Sheet, Side, Style, Table, Tables, RECORD_BYTES,
 };
 
+use crate::files;
 use crate::fills::Day;
 use crate::random::Random;
 
@@ -61,6 +63,24 @@ pub fn margins_are_reached(case: &dyn Display, sheet: &Sheet) {
             || *margin == half_of_a_box(&legs, &worksheet);
         assert!(reached, "{case}: group {group}: {margin} is the loss at no strike of {worksheet:?}");
     }
+}
+
+/// A file moved to the other form and back is the same file, and on its way it has the same verdict.
+pub fn moves_go_round(case: &dyn Display, tables: &Tables, origin: Origin) {
+    let file = files::of(tables, origin);
+    if file.is_empty() {
+        return;
+    }
+    let [mut there, mut back] = [vec![0; file.len()], vec![0; file.len()]];
+    let moved = |file: &[u8], form: Form, account: u64, out: &mut [u8]| match form {
+        Form::New => move_to_new(file, account, out),
+        Form::Old => move_to_old(file, out),
+    };
+    let other = if origin.form == Form::Old { Form::New } else { Form::Old };
+    assert_eq!(moved(&file, other, 4711, &mut there), Ok(file.len()), "{case}: the move");
+    assert_eq!(check_file(&there), check_file(&file), "{case}: a moved file has its verdict");
+    assert_eq!(moved(&there, origin.form, origin.account, &mut back), Ok(file.len()), "{case}: the way back");
+    assert!(back == file, "{case}: a file moved there and back is another");
 }
 
 /// Holdings that come out are good holdings, one record for each line and side; played over by no fills they

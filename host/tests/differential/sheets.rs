@@ -36,7 +36,8 @@ pub fn valid(random: &mut Random) -> Sheet {
     if random.one_in(2) {
         random.shuffle(&mut placement);
     }
-    Sheet { holdings: holdings_of(random, &placement), claims: claims_of(&placement), placement }
+    let (holdings, claims) = (holdings_of(random, &placement), claims_of(&placement));
+    Sheet { holdings, placement, claims, ..Sheet::default() }
 }
 
 /// The margins that the model finds for a placement's groups, each of which is a spread.

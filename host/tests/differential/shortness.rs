@@ -3,10 +3,13 @@
 use usm::accounts::{in_group, placed, times};
 use usm::block::BLOCK_BYTES;
 use usm::both::BOTH;
-use usm::{Refusal, Sheet, Tables};
+use usm::{Form, Origin, Refusal, Sheet, Tables};
 
 use crate::sheets::claims_of;
 use crate::{compare, files};
+
+/// A file of each form.
+const FORMS: [Origin; 2] = [Origin::OLD, Origin { form: Form::New, account: u64::MAX }];
 
 /// Three groups with 2, 4 and 3 strikes, and a lone long.
 fn three_groups() -> Tables {
@@ -53,16 +56,22 @@ fn every_room_for_margins_and_worksheets() {
 fn every_room_for_a_file() {
     let tables = three_groups();
     let needed = 3 * BLOCK_BYTES;
+    let [old, new] = FORMS.map(|origin| files::of(&tables, origin));
     for room in 0..=needed + 40 {
         let wanted = if room < needed { 17 } else { 0 };
-        assert_eq!(compare::write_file(&"rooms", &tables, room), wanted, "room {room}");
+        for origin in FORMS {
+            let numbers = [origin.form.number(), origin.account];
+            assert_eq!(compare::write_file(&"rooms", &tables, numbers, room), wanted, "room {room}");
+        }
+        assert_eq!(compare::move_to_new(&"rooms", &old, 7, room), wanted, "room {room}");
+        assert_eq!(compare::move_to_old(&"rooms", &new, room), wanted, "room {room}");
     }
 }
 
 #[test]
 fn every_room_for_the_tables_of_a_file() {
     let tables = three_groups();
-    let file = files::of(&tables);
+    let file = files::of(&tables, Origin::new(7));
     let needed = tables.in_order().map(|(_, table)| table.len());
     for (short, enough) in needed.into_iter().enumerate() {
         for room in 0..=enough + 33 {
@@ -77,15 +86,20 @@ fn every_room_for_the_tables_of_a_file() {
 
 #[test]
 fn every_damaged_byte_is_refused_at_its_block() {
-    let file = files::of(&three_groups());
-    for at in 0..file.len() {
-        for change in [1, 0x80, 0xFF] {
-            let mut damaged = file.clone();
-            damaged[at] ^= change;
-            let refused = Err(Refusal::new(2, 0, (at / BLOCK_BYTES) as u64));
-            for calls in &BOTH {
-                let name = calls.name;
-                assert_eq!((calls.check_file)(&damaged), refused, "{name}: byte {at} changed by {change}");
+    for file in FORMS.map(|origin| files::of(&three_groups(), origin)) {
+        for at in 0..file.len() {
+            for change in [1, 0x80, 0xFF] {
+                let mut damaged = file.clone();
+                damaged[at] ^= change;
+                let refused = Err(Refusal::new(2, 0, (at / BLOCK_BYTES) as u64));
+                for calls in &BOTH {
+                    let name = calls.name;
+                    assert_eq!(
+                        (calls.check_file)(&damaged),
+                        refused,
+                        "{name}: byte {at} changed by {change}"
+                    );
+                }
             }
         }
     }
@@ -93,7 +107,7 @@ fn every_damaged_byte_is_refused_at_its_block() {
 
 #[test]
 fn every_length_of_a_file() {
-    let file = files::of(&three_groups());
+    let file = files::of(&three_groups(), Origin::new(7));
     for length in 0..=file.len() {
         let wanted = if length == 0 || length % BLOCK_BYTES != 0 {
             1

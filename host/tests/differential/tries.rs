@@ -3,7 +3,7 @@
 use std::collections::BTreeSet;
 
 use usm::fields::{get, records, GROUP, STRIKE};
-use usm::Tables;
+use usm::{Form, Tables};
 
 use crate::cases::{Case, Tally};
 use crate::random::Random;
@@ -28,8 +28,15 @@ pub fn try_tables(case: &Case, random: &mut Random, tables: &Tables, tally: &mut
     tally.count(compare::worksheet(case, &tables.placement, g, strikes_room, nets_room));
 
     tally.count(compare::check_sheet(case, tables));
-    let file = files::of(tables);
-    tally.count(compare::write_file(case, tables, random.room(file.len())));
+    let origin = files::origin(random);
+    let file = files::of(tables, origin);
+    let as_numbers = match random.below(24) {
+        0 => [random.pick(&[0, 3, 257, 1 << 32, u64::MAX]), origin.account],
+        1 => [Form::New.number(), 0],
+        2 => [Form::Old.number(), random.next()],
+        _ => [origin.form.number(), origin.account],
+    };
+    tally.count(compare::write_file(case, tables, as_numbers, random.room(file.len())));
     try_file(case, random, &file, tables, tally);
     if case.index % 16 == 0 {
         wrapper::answers_alike(case, tables, &file, g);
@@ -48,6 +55,9 @@ pub fn try_file(case: &Case, random: &mut Random, file: &[u8], tables: &Tables, 
     tally.count(compare::read_file(case, file, rooms));
     compare::file_line(case, file);
     compare::file_table(case, file);
+    let account = if random.one_in(6) { 0 } else { random.next() >> random.below(64) };
+    tally.count(compare::move_to_new(case, file, account, random.room(file.len())));
+    tally.count(compare::move_to_old(case, file, random.room(file.len())));
 }
 
 /// How many distinct strikes a group has, for the choice of room only.

@@ -58,5 +58,5 @@ pub fn tiny_world(random: &mut Random) -> Tables {
         let margin = if random.one_in(4) { 1_000 } else { by_model.unwrap_or(0) };
         claims.push(Claim { group, margin });
     }
-    Sheet { holdings, placement, claims }.tables()
+    Sheet { holdings, placement, claims, ..Sheet::default() }.tables()
 }

@@ -4,7 +4,7 @@ use std::fmt::Display;
 
 use usm::block::LONGEST_FILE;
 use usm::both::{Calls, LIBRARY, MODEL};
-use usm::{Accepted, PlayCounts, RecordCounts, Refusal, Table, Tables, MOST_CLAIMS};
+use usm::{Accepted, Origin, PlayCounts, RecordCounts, Refusal, Table, Tables, MOST_CLAIMS};
 
 use crate::fills::Day;
 
@@ -17,8 +17,10 @@ struct Answers {
     worksheet: (Result<usize, Refusal>, [u32; 8], [i64; 8]),
     check_sheet: Result<Accepted, Refusal>,
     check_file: Result<Accepted, Refusal>,
-    read_file: (Result<RecordCounts, Refusal>, [[u8; 200]; 3]),
+    read_file: (Result<(RecordCounts, Origin), Refusal>, [[u8; 200]; 3]),
     write_file: (Result<usize, Refusal>, Vec<u8>),
+    move_to_new: (Result<usize, Refusal>, Vec<u8>),
+    move_to_old: (Result<usize, Refusal>, Vec<u8>),
     file_line: String,
     file_table: String,
 }
@@ -28,7 +30,8 @@ fn answers(calls: Calls, tables: &Tables, file: &[u8], g: u64) -> Answers {
     let mut margins = [-1; MOST_CLAIMS];
     let (mut strikes, mut nets) = ([1; 8], [-1; 8]);
     let [mut held, mut placed, mut claimed] = [[1; 200]; 3];
-    let mut out = vec![1; LONGEST_FILE];
+    let [mut out, mut new, mut old] = [vec![1; LONGEST_FILE], vec![1; LONGEST_FILE], vec![1; LONGEST_FILE]];
+    let origin = Origin::of_account(g);
     Answers {
         check_table: (calls.check_table)(Table::Placement, placement),
         margin: (calls.margin)(placement, g),
@@ -37,7 +40,9 @@ fn answers(calls: Calls, tables: &Tables, file: &[u8], g: u64) -> Answers {
         check_sheet: (calls.check_sheet)(holdings, placement, claims),
         check_file: (calls.check_file)(file),
         read_file: ((calls.read_file)(file, &mut held, &mut placed, &mut claimed), [held, placed, claimed]),
-        write_file: ((calls.write_file)(holdings, placement, claims, &mut out), out),
+        write_file: ((calls.write_file)(holdings, placement, claims, origin, &mut out), out),
+        move_to_new: ((calls.move_to_new)(file, g, &mut new), new),
+        move_to_old: ((calls.move_to_old)(file, &mut old), old),
         file_line: (calls.file_line)(file),
         file_table: (calls.file_table)(file),
     }

@@ -30,9 +30,17 @@ pub fn sizes() -> Vec<Case> {
     cases.map(|(name, file)| (String::from(name), file)).into()
 }
 
+/// The same of account 7, in the new form.
+fn of_account(name: &str, block: usize, at: usize, bytes: &[u8]) -> Case {
+    set(name, Sheet { account: 7, ..accepted() }.to_file().expect("a file"), block, at, bytes)
+}
+
 /// The file with bytes of one block set, its checks to match.
 fn changed(name: &str, block: usize, at: usize, bytes: &[u8]) -> Case {
-    let mut file = file();
+    set(name, file(), block, at, bytes)
+}
+
+fn set(name: &str, mut file: Vec<u8>, block: usize, at: usize, bytes: &[u8]) -> Case {
     let block = &mut file[block * BLOCK_BYTES..][..BLOCK_BYTES];
     block[at..at + bytes.len()].copy_from_slice(bytes);
     seal(block);
@@ -48,6 +56,15 @@ pub fn blocks() -> Vec<Case> {
     vec![
         (String::from("a damaged block"), damaged),
         changed("no mark", 0, 0, b"USM9"),
+        changed("no mark behind the first block", 1, 0, b"USN1"),
+        changed("a block of the new form behind the old", 1, 0, b"USM2"),
+        of_account("a block of the old form behind the new", 1, 0, b"USM1"),
+        of_account("a block of another account", 2, 496, &[9]),
+        of_account("a block with no account", 1, 496, &[0]),
+        of_account("a first block with no account", 0, 496, &[0]),
+        of_account("bytes behind the account", 0, 504, &[1]),
+        of_account("bytes before the account", 0, 495, &[1]),
+        changed("an account in the old form", 1, 496, &[7]),
         changed("no such kind", 1, 4, &[4]),
         changed("no record", 0, 5, &[0]),
         changed("too many records in a block", 0, 5, &[16]),

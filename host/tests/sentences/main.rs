@@ -24,7 +24,7 @@ fn entry(name: &str, refusal: &Refusal, sentence: &str) -> String {
 
 /// The sentences of refusals by themselves, at places that count from 0 and groups that count from 1.
 fn short() -> String {
-    let tables: [&[u64]; 19] = [
+    let tables: [&[u64]; 20] = [
         &[0],
         &[0],
         &[0],
@@ -44,8 +44,9 @@ fn short() -> String {
         &[0, 1, 2, 3, 4],
         &[4],
         &[1, 4],
+        &[0],
     ];
-    let refusals = (1..=19).zip(tables).flat_map(|(number, tables)| {
+    let refusals = (1..=20).zip(tables).flat_map(|(number, tables)| {
         tables.iter().map(move |table| Refusal::new(number, *table, if number == 1 { 0 } else { 2 }))
     });
     refusals.map(|refusal| entry("by itself", &refusal, &refusal.to_string())).collect()
@@ -100,7 +101,7 @@ fn every_reason_that_a_file_can_have_is_in_the_table() {
 fn a_refusal_of_something_else_has_its_own_sentence() {
     // Nothing of what these name is in the file, or they are none of a file's refusals.
     let file = sheets::accepted().to_file().expect("a file");
-    for number in 0..=20 {
+    for number in 0..=21 {
         for table in 0..=5 {
             for place in [0, 1, 39, u64::MAX] {
                 let refusal = Refusal::new(number, table, place);

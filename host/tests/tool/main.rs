@@ -10,6 +10,7 @@ mod full;
 mod groups;
 mod json;
 mod make;
+mod moves;
 mod play;
 mod script;
 

@@ -130,8 +130,8 @@ fn every_error_of_a_text_is_told() {
 fn what_is_no_sheet_file_cannot_be_shown() {
     let folder = folder("tool-show");
     let (status, shown, message) = told(run(&folder, &["show", "-"], &[0; 512]));
-    let mark =
-        "sheet: -: refusal 3: the 1st of 1 block is out of form: it does not begin with the mark `USM1`\n";
+    let mark = "sheet: -: refusal 3: the 1st of 1 block is out of form: \
+                it does not begin with the mark `USM1` or `USM2`\n";
     assert_eq!((status, shown.as_str(), message.as_str()), (2, "", mark));
     let (status, _, message) = told(run(&folder, &["show", "missing.usm"], b""));
     assert_eq!(status, 2);

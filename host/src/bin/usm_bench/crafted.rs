@@ -14,7 +14,7 @@ const LATER: u32 = 20110618;
 
 /// Unplaced longs, held as they stand in the placement: nearly all the time goes into lines.
 fn unplaced(lines: Vec<Leg>) -> Sheet {
-    claimed(Sheet { holdings: lines.clone(), placement: lines, claims: Vec::new() }, 0)
+    claimed(Sheet { holdings: lines.clone(), placement: lines, ..Sheet::default() }, 0)
 }
 
 /// As many longs as a table takes, at strikes `step` mills apart.
@@ -40,7 +40,7 @@ pub fn one_bucket() -> Sheet {
 /// thing that the library tells two lines of a bucket apart by: 14 at holding 0.
 pub fn sizes_uneven() -> Sheet {
     let sized = |first| (first..).zip(longs(1, 0)).map(|(unit_size, leg)| Leg { unit_size, ..leg }).collect();
-    Sheet { holdings: sized(1), placement: sized(1 + MOST_LEGS as u16), claims: Vec::new() }
+    Sheet { holdings: sized(1), placement: sized(1 + MOST_LEGS as u16), ..Sheet::default() }
 }
 
 /// One contract more is held than placed in this record: 14 there.
@@ -77,5 +77,5 @@ const PAIRS: usize = MOST_LEGS / 2;
 fn one_group(pair: impl Fn(usize) -> [Leg; 2]) -> Sheet {
     let placement: Vec<Leg> = (0..PAIRS).flat_map(pair).collect();
     let holdings = placement.iter().map(|leg| in_group(0, *leg)).collect();
-    claimed(Sheet { holdings, placement, claims: Vec::new() }, 1)
+    claimed(Sheet { holdings, placement, ..Sheet::default() }, 1)
 }

@@ -20,7 +20,7 @@ fn sheet_from(strike: u32, groups: u16, legs: usize) -> Sheet {
     let count = placement.len();
     // 101 has no common factor with any count used here, so each leg comes up once.
     let holdings = (0..count).map(|index| in_group(0, placement[index * 101 % count])).collect();
-    claimed(Sheet { holdings, placement, claims: Vec::new() }, groups)
+    claimed(Sheet { holdings, placement, ..Sheet::default() }, groups)
 }
 
 /// The sheet with the margins of its groups claimed, which is then accepted.

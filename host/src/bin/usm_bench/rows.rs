@@ -3,8 +3,8 @@
 use usm::block::{BLOCK_BYTES, LONGEST_FILE};
 use usm::both::{Calls, LIBRARY, MODEL};
 use usm::{
-    fill_table, leg_table, Accepted, Fill, Leg, Refusal, Sheet, Table, Tables, MOST_CLAIMS, MOST_FILLS,
-    MOST_LEGS,
+    fill_table, leg_table, Accepted, Fill, Leg, Origin, Refusal, Sheet, Table, Tables, MOST_CLAIMS,
+    MOST_FILLS, MOST_LEGS,
 };
 
 use crate::crafted;
@@ -86,7 +86,7 @@ fn read_file(name: &'static str, file: &[u8]) -> Row {
         let [mut holdings, mut placement, mut claims] = Table::ALL.map(|table| vec![0; table.most_bytes()]);
         move || {
             let counts = (calls.read_file)(&file, &mut holdings, &mut placement, &mut claims);
-            folded(counts, |counts| (counts.holdings + counts.placement + counts.claims) as u64)
+            folded(counts, |(counts, _)| (counts.holdings + counts.placement + counts.claims) as u64)
         }
     })
 }
@@ -94,11 +94,28 @@ fn read_file(name: &'static str, file: &[u8]) -> Row {
 fn write_file(name: &'static str, sheet: &Sheet) -> Row {
     row(name, |calls| {
         let Tables { holdings, placement, claims } = sheet.tables();
+        let origin = Origin::of_account(sheet.account);
         let mut out = vec![0; LONGEST_FILE];
         move || {
-            let length = (calls.write_file)(&holdings, &placement, &claims, &mut out);
+            let length = (calls.write_file)(&holdings, &placement, &claims, origin, &mut out);
             folded(length, |length| length as u64)
         }
+    })
+}
+
+fn move_to_new(name: &'static str, file: &[u8]) -> Row {
+    row(name, |calls| {
+        let file = file.to_vec();
+        let mut out = vec![0; LONGEST_FILE];
+        move || folded((calls.move_to_new)(&file, ACCOUNT, &mut out), |length| length as u64)
+    })
+}
+
+fn move_to_old(name: &'static str, file: &[u8]) -> Row {
+    row(name, |calls| {
+        let file = file.to_vec();
+        let mut out = vec![0; LONGEST_FILE];
+        move || folded((calls.move_to_old)(&file, &mut out), |length| length as u64)
     })
 }
 
@@ -159,8 +176,12 @@ pub fn rows() -> Vec<Row> {
     rows
 }
 
+/// The account of the files that are of the new form.
+const ACCOUNT: u64 = 0x0102_0304_0506_0708;
+
 fn ordinary() -> Vec<Row> {
     let (small, typical, full, wide) = (sheet(1, 4), sheet(12, 5), sheet(32, 8), sheet(1, 256));
+    let new = Sheet { account: ACCOUNT, ..full.clone() };
     vec![
         check_sheet("check sheet, small (4 legs, 1 group)", &small.tables()),
         check_sheet("check sheet, typical (60 legs, 12 groups)", &typical.tables()),
@@ -182,6 +203,11 @@ fn ordinary() -> Vec<Row> {
         file_table("table of one group of 256 strikes", &file_of(&wide)),
         read_file("read file, 39 blocks", &file_of(&full)),
         write_file("write file, 39 blocks", &full),
+        check_file("check file, full, new form", &file_of(&new)),
+        read_file("read file, 39 blocks, new form", &file_of(&new)),
+        write_file("write file, 39 blocks, new form", &new),
+        move_to_new("move 39 blocks to the new form", &file_of(&full)),
+        move_to_old("move 39 blocks to the old form", &file_of(&new)),
         play_fills("play 60 fills over 60 records", &held(60), &day(60, 60)),
         play_fills("play 1,024 fills over 256 records", &held(MOST_LEGS), &day(MOST_LEGS, MOST_FILLS)),
     ]

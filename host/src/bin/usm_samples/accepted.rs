@@ -3,7 +3,7 @@
 use usm::accounts::{in_group, leg, placed, times};
 use usm::{Leg, Sheet, Style};
 
-use crate::list::{iron_condor, sample, Sample};
+use crate::list::{iron_condor, sample, Sample, ACCOUNT};
 
 /// One group each, and accepted.
 pub fn spreads() -> Vec<Sample> {
@@ -69,6 +69,11 @@ pub fn sheets() -> Vec<Sample> {
             "split-lines",
             "A line held in one record and placed in two groups, another held in two records.",
             split_lines(),
+        ),
+        sample(
+            "with-an-account",
+            "The vertical in a file of the new form: each block has the number of the account.",
+            Sheet { account: ACCOUNT, ..placed(&[leg("L60c"), leg("S50c")], &[1_000_000]) },
         ),
         sample(
             "lone-unplaced-long",

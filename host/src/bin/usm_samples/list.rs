@@ -24,6 +24,9 @@ pub fn sample(name: &'static str, about: &'static str, sheet: Sheet) -> Sample {
     Sample { name, sheet, making: Making::FromText { about } }
 }
 
+/// The account of the samples that are of the new form.
+pub const ACCOUNT: u64 = 20_120_827;
+
 pub fn changed(name: &'static str, change: fn(Vec<u8>) -> Vec<u8>) -> Sample {
     let sheet = placed(&iron_condor(2), &[1_000_000, 500_000]);
     Sample { name, sheet, making: Making::Changed(change) }

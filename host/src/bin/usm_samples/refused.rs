@@ -69,12 +69,15 @@ pub fn sheets() -> Vec<Sample> {
     ]
 }
 
-/// Files that are refused before any rule is asked (1 to 4).
+/// Files that are refused before any rule is asked (1 to 4, 20).
 pub fn changed_files() -> Vec<Sample> {
     vec![
         changed("damaged-block", changes::damage_a_strike),
         changed("kinds-that-fall", changes::put_claims_before_placement),
         changed("no-such-date", changes::expire_on_29_february_2011),
         changed("torn-file", changes::cut_off_the_end),
+        changed("two-accounts-joined", changes::join_two_accounts),
+        changed("two-forms-joined", changes::join_two_forms),
+        changed("account-zero", changes::lose_the_account),
     ]
 }

@@ -9,6 +9,7 @@ mod groups;
 mod input;
 mod json;
 mod make;
+mod moves;
 mod output;
 mod play;
 mod plot;
@@ -27,6 +28,9 @@ usage:
   sheet check FILE.. [--json]     print the verdict on sheet files
   sheet margins FILE              print the margin of each group
   sheet worksheet FILE G          print the net of group G at each of its strikes
+  sheet to-new FILE ACCOUNT OUT   move a sheet file to the new form, with the number of its
+                                  account in each block [--force]
+  sheet to-old FILE OUT           move it back to the old form [--force]
   sheet play HOLDINGS FILLS OUT   play a text of fills over a text of holdings, and write what
                                   is held then as the text OUT [--force]
   sheet help                      tell about the text formats too (-h, --help)
@@ -60,6 +64,8 @@ fn run(words: Vec<OsString>) -> Result<ExitCode, String> {
         ("check", [_, ..], false, json) => check::check(files, json),
         ("margins", [file], false, false) => groups::margins(file),
         ("worksheet", [file, group], false, false) => groups::worksheet(file, group),
+        ("to-new", [file, account, out], force, false) => moves::to_new(file, account, out, force),
+        ("to-old", [file, out], force, false) => moves::to_old(file, out, force),
         ("play", [holdings, fills, out], force, false) => play::play(holdings, fills, out, force),
         ("help", [], false, false) => help(),
         _ => Err(not_understood(String::from("the command was not understood"))),

@@ -1,13 +1,12 @@
 use denote.Ref.{now}
 use mathlib.Core.Path.{_≡_, refl, ap, _∙_}
-use Prim.Native.Nat.{ℕ, _-_, _*_, _/_, _≤_}
+use Prim.Native.Nat.{_-_, _*_, _/_, _≤_}
 use native.Mathlib.Omega.{arith}
 use lib.ListN.{length, length-append}
 use Rattle.records.specs.Chunks.{chunkAt}
 use Rattle.records.proofs.ChunkLaws.{part-is}
 use Rattle.blocks.specs.File.{recordsAs}
 use Rattle.blocks.proofs.FileLaws.{earlier, joinedBack, length-blockAt, joinedTo, joined-next, joined-end}
-use borrow.Author.Needs.{needs}
 use Rattle.blocks.proofs.copier.kind_bytes.Statement.{statement}
 use Rattle.blocks.proofs.copier.kind_bytes.Tie as tie
 

@@ -1,4 +1,4 @@
-use Rattle.verdicts.proofs.FileVerdicts.{file-refused}
+use Rattle.verdicts.proofs.FileVerdicts.{file-refused, has-records}
 use Rattle.verdicts.proofs.PieceLaws.{piece-is}
 use Rattle.verdicts.proofs.TableFile.{refused-text}
 use native.Mathlib.Omega.{arith}
@@ -11,7 +11,7 @@ use Rattle.verdicts.proofs.table.table_text.Tie as tie
 read-table-requires : tie.Need-read-table-requires
 read-table-requires c κs =
     let n = c .before .before in
-    sym (n .before .before .judge-file .ensures) ∙ n .counts .given .1
+    has-records _ _ _ (sym (n .before .before .judge-file .ensures) ∙ n .counts .given .1)
 
 returns : tie.Need-returns
 returns c =
