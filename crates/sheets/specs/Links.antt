@@ -19,7 +19,7 @@ unfoldable pub digitsOf : Leg → Digits
 digitsOf l =
     record {
       these = l .strike + 134217728 * l .expiry;
-      those = l .underlying + 4294967296 * l .size + 4398046511104 * (l .side + 2 * l .right + 4 * l .style + 8 * l .market);
+      those = l .underlying + 4294967296 * l .size + 4398046511104 * (l .side + 2 * l .right + 4 * l .style + 8 * l .market + 16 * l .settlement);
     }
 
 -- the digits after the first

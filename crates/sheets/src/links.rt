@@ -44,7 +44,8 @@ fn digits_of(leg: Leg) -> Digits
     let terms = leg.side as u64
         + 2 * (leg.right as u64)
         + 4 * (leg.style as u64)
-        + 8 * (leg.market as u64);
+        + 8 * (leg.market as u64)
+        + 16 * (leg.settlement as u64);
     Digits {
         these: leg.strike as u64 + 134217728 * (leg.expiry as u64),
         those: leg.underlying as u64 + 4294967296 * (leg.size as u64) + 4398046511104 * terms,
