@@ -14,6 +14,7 @@ use Rattle.records.specs.declared.refusals.Fault.{Fault}
 use Rattle.records.specs.declared.refusals.Fault.the-variants.{Nothing, Is}
 use Rattle.blocks.specs.Reader.{readChecks}
 use Rattle.spreads.specs.Calls.{dueAnswer, groupChecks, marginCall}
+use Rattle.spreads.specs.Cash.{cashCall}
 use Rattle.sheets.specs.Sheets.{sheetChecks}
 use Rattle.sheets.specs.Verdicts.{verdictIn, verdictOf}
 use Rattle.sheets.specs.declared.sheet.Verdict.{Verdict}
@@ -41,6 +42,10 @@ after-mills (Is r) v h = tt
 pub margin-mills : (placement : List ℕ) (g : ℕ) → DueMills (marginCall placement g)
 unfolding marginCall
 margin-mills placement g = due-mills (firstOf (groupChecks placement g)) _
+
+pub cash-mills : (placement : List ℕ) (g : ℕ) → DueMills (cashCall placement g)
+unfolding cashCall
+cash-mills placement g = due-mills _ _
 
 pub sheet-mills : (h p c : List ℕ) → VerdictMills (verdictOf h p c)
 unfolding verdictOf
