@@ -71,6 +71,8 @@ static void try_groups(void)
     for (uint64_t g = 0; g <= 33; g += 11) {
         usm_margin(none(), 0, g, answer);
         compare("usm_margin", answer);
+        usm_cash(none(), 0, g, answer);
+        compare("usm_cash", answer);
         usm_margins(none(), 0, g, no_nets(), 0, answer);
         compare("usm_margins", answer);
         usm_worksheet(none(), 0, g, no_strikes(), 0, no_nets(), 0, answer);

@@ -99,6 +99,27 @@ static int print_margin(const struct sheet *sheet, uint64_t g)
     return 1;
 }
 
+/* What a group of these legs requires in a cash account, once it is stated as cash. */
+static int print_cash(void)
+{
+    uint8_t legs[2 * USM_RECORD_BYTES];
+    uint64_t answer[USM_ANSWER_NUMBERS];
+    leg(legs, 1, USM_LONG, USM_PUT, 50000);
+    leg(legs + USM_RECORD_BYTES, 1, USM_SHORT, USM_PUT, 60000);
+    usm_cash(legs, sizeof legs, 1, answer);
+    if (!refused("usm_cash", answer))
+        return 0;
+    for (size_t i = 0; i < 2; i++) {
+        legs[i * USM_RECORD_BYTES + USM_LEG_STYLE] = USM_EUROPEAN;
+        legs[i * USM_RECORD_BYTES + USM_LEG_SETTLEMENT] = USM_CASH;
+    }
+    usm_cash(legs, sizeof legs, 1, answer);
+    if (refused("usm_cash", answer))
+        return 0;
+    printf("cash required %" PRId64 "\n", (int64_t)answer[1]);
+    return 1;
+}
+
 /* The margins of both groups, and the claims made from them. */
 static int claim_margins(struct sheet *sheet)
 {
@@ -236,7 +257,7 @@ int main(void)
     place_iron_condor(&sheet);
     if (!print_records(USM_HOLDINGS, sheet.holdings, sizeof sheet.holdings) ||
         !print_records(USM_PLACEMENT, sheet.placement, sizeof sheet.placement) ||
-        !claim_margins(&sheet) || !print_margin(&sheet, 2) || !print_worksheet(&sheet, 1) ||
+        !claim_margins(&sheet) || !print_margin(&sheet, 2) || !print_cash() || !print_worksheet(&sheet, 1) ||
         !check(&sheet) || !write_and_read_back(&sheet) || !play_a_day(&sheet))
         return 1;
 

@@ -17,6 +17,7 @@ static _Alignas(4096) uint8_t stack[STACK];
 static uint8_t file[USM_LONGEST_FILE], moved[USM_LONGEST_FILE];
 static size_t file_len;
 static uint8_t holdings[USM_LEGS_BYTES], placement[USM_LEGS_BYTES], claims[USM_CLAIMS_BYTES];
+static uint8_t cash_group[USM_LEGS_BYTES];
 static uint32_t strikes[USM_MOST_LEGS];
 static int64_t nets[USM_MOST_LEGS];
 static uint8_t fills[USM_MOST_FILLS * USM_RECORD_BYTES], result[USM_LEGS_BYTES], numbers[USM_MOST_FILLS];
@@ -48,6 +49,14 @@ static void make_tables(void)
         memcpy(holdings + i * USM_RECORD_BYTES, record, USM_RECORD_BYTES);
         put(record, USM_LEG_GROUP, 2, i / 8 + 1);
     }
+    memcpy(cash_group, placement, sizeof placement);
+    for (unsigned i = 0; i < USM_MOST_LEGS; i++) {
+        uint8_t *record = cash_group + i * USM_RECORD_BYTES;
+        put(record, USM_LEG_GROUP, 2, 1);
+        put(record, USM_LEG_STYLE, 1, USM_EUROPEAN);
+        put(record, USM_LEG_STRIKE, 4, i + 1);
+        put(record, USM_LEG_SETTLEMENT, 1, USM_CASH);
+    }
     for (unsigned i = 0; i < USM_MOST_FILLS; i++) {
         uint8_t *record = fills + i * USM_RECORD_BYTES;
         memcpy(record, holdings + i % USM_MOST_LEGS * USM_RECORD_BYTES, USM_RECORD_BYTES);
@@ -62,6 +71,7 @@ static void make_tables(void)
 
 static void check_table(void) { usm_check_table(USM_PLACEMENT, placement, sizeof placement, answer); }
 static void margin(void) { usm_margin(placement, sizeof placement, 32, answer); }
+static void cash(void) { usm_cash(cash_group, sizeof cash_group, 1, answer); }
 static void margins(void) { usm_margins(placement, sizeof placement, 32, nets, 32, answer); }
 static void worksheet(void)
 {
@@ -121,7 +131,7 @@ static size_t used(void (*of)(void))
 int main(void)
 {
     static void (*const calls[])(void) = {
-        check_table, margin, margins, worksheet, check_sheet, check_file, read_file, write_file,
+        check_table, margin, cash, margins, worksheet, check_sheet, check_file, read_file, write_file,
         move_to_new, move_to_old, play_fills,
     };
     make_tables();

@@ -25,7 +25,7 @@
  *               answered.
  *   answer      Exactly four numbers, always written in full:
  *                 success  { 0, ... }  the results, as told at each call
- *                 refusal  { number, table, place, 0 }, number 1 to 20
+ *                 refusal  { number, table, place, 0 }, number 1 to 21
  *               table: 0 none, 1 holdings, 2 placement, 3 claims, 4 fills.
  *   Buffers     On a refusal nothing lent is written but `answer`, and the `line` and `text` of
  *               the two calls that print. On success what lies past the output stays as it was.
@@ -68,6 +68,8 @@
  *       fill of a 257th line and side                             or listed
  *   20  a block's account is zero or not the first block's;       0, block;
  *       after 3 in each block; or a zero account supplied         or 0, 0
+ *   21  the group is not fit for a cash account, after 13; of
+ *       usm_cash only                                             2, group
  */
 
 #ifndef USM_H
@@ -122,7 +124,8 @@ enum {
     USM_NO_ROOM = 17,
     USM_MORE_CLOSED_THAN_HELD = 18,
     USM_TOO_MUCH_HELD = 19,
-    USM_WRONG_ACCOUNT = 20
+    USM_WRONG_ACCOUNT = 20,
+    USM_NOT_FIT_FOR_CASH = 21
 };
 
 /* The forms of a file. */
@@ -143,18 +146,20 @@ enum {
     USM_LEG_STRIKE = 12,       /* 4 bytes: 1 to 99,999,999 mills for one unit */
     USM_LEG_EXPIRY = 16,       /* 4 bytes: YYYYMMDD, a real date, 20000101 to 20991231 */
     USM_LEG_CONTRACTS = 20,    /* 4 bytes: 1 to 100,000 */
-    USM_LEG_FILLER = 24        /* 8 bytes: zero */
+    USM_LEG_SETTLEMENT = 24,   /* 1 byte: USM_NOT_STATED, USM_CASH, USM_PHYSICAL */
+    USM_LEG_FILLER = 25        /* 7 bytes: zero */
 };
 
 /* A fill is a leg record of the holdings in which one byte of the filler is the action. */
 enum {
-    USM_FILL_ACTION = 24       /* 1 byte: USM_OPEN, USM_CLOSE */
+    USM_FILL_ACTION = 26       /* 1 byte: USM_OPEN, USM_CLOSE */
 };
 
 enum { USM_LONG = 1, USM_SHORT = 2 };
 enum { USM_CALL = 1, USM_PUT = 2 };
 enum { USM_AMERICAN = 1, USM_EUROPEAN = 2 };
 enum { USM_LISTED = 1, USM_OTC = 2 };
+enum { USM_NOT_STATED = 0, USM_CASH = 1, USM_PHYSICAL = 2 };
 enum { USM_OPEN = 1, USM_CLOSE = 2 };
 
 /* Where the fields of a claim record begin; all other bytes are zero. */
@@ -197,6 +202,15 @@ void usm_check_table(uint64_t kind, const uint8_t *table, size_t table_len, uint
  *            g may be any number; 0 and those above 32 are 6.
  */
 void usm_margin(const uint8_t *placement, size_t placement_len, uint64_t g, uint64_t *answer);
+
+/*
+ * The cash that group g of a placement requires in a cash account: its margin, for a European long box too
+ * without its half.
+ *   success  { 0, mills, 0, 0 }
+ *   refusals as usm_margin; then 21, table 2, place g, unless all legs are European, all are stated as
+ *            USM_CASH, and all have one expiry.
+ */
+void usm_cash(const uint8_t *placement, size_t placement_len, uint64_t g, uint64_t *answer);
 
 /*
  * The margins of groups 1 to n: that of group g goes to out[g - 1].

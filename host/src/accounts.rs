@@ -1,11 +1,11 @@
 //! Legs and sheets in the notation of document 01's "Accounts on the bench": for the samples,
 //! the benchmark and the tests.
 
-use crate::records::{Claim, Leg, Market, OptionType, Side, Style};
+use crate::records::{Claim, Leg, Market, OptionType, Settlement, Side, Style};
 use crate::sheet::Sheet;
 
 /// One leg, as `L60c` for long a call at 60 dollars: listed, American, unit 100, one
-/// underlying, one contract, expiry 20110521, in group 1.
+/// underlying, one contract, expiry 20110521, settlement not stated, in group 1.
 ///
 /// # Panics
 ///
@@ -32,6 +32,7 @@ pub fn leg(notation: &str) -> Leg {
         strike: dollars.parse::<u32>().expect("a strike in whole dollars") * 1_000,
         expiry: 20110521,
         contracts: 1,
+        settlement: Settlement::NotStated,
     }
 }
 

@@ -40,6 +40,17 @@ pub fn margin(placement: &[u8], g: u64) -> Result<i64, Refusal> {
     ask(|answer| ffi::margin(placement, g, answer)).map(|[margin, ..]| margin as i64)
 }
 
+/// The cash that group `g` requires in a cash account, in mills: 1, 4, 6 to 13, then 21 unless all its legs are
+/// European, stated as cash, and of one expiry. It is the margin, for a European long box too without its half.
+///
+/// ```
+/// use usm::{cash, Refusal};
+/// assert_eq!(cash(&[], 1), Err(Refusal::new(6, 2, 1)));
+/// ```
+pub fn cash(placement: &[u8], g: u64) -> Result<i64, Refusal> {
+    ask(|answer| ffi::cash(placement, g, answer)).map(|[cash, ..]| cash as i64)
+}
+
 /// The margins of groups 1 to `n` from `out[0]` on; answers `n`.
 ///
 /// After 1 and 4 the groups are judged in ascending order (6 to 13); then 17, with place

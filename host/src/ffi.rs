@@ -20,6 +20,8 @@ extern "C" {
 
     fn usm_margin(placement: *const u8, placement_len: usize, g: u64, answer: *mut u64);
 
+    fn usm_cash(placement: *const u8, placement_len: usize, g: u64, answer: *mut u64);
+
     fn usm_margins(
         placement: *const u8,
         placement_len: usize,
@@ -119,6 +121,10 @@ pub fn check_table(kind: u64, table: &[u8], answer: &mut Answer) {
 
 pub fn margin(placement: &[u8], g: u64, answer: &mut Answer) {
     unsafe { usm_margin(placement.as_ptr(), placement.len(), g, answer.as_mut_ptr()) }
+}
+
+pub fn cash(placement: &[u8], g: u64, answer: &mut Answer) {
+    unsafe { usm_cash(placement.as_ptr(), placement.len(), g, answer.as_mut_ptr()) }
 }
 
 pub fn margins(placement: &[u8], n: u64, out: &mut [i64], answer: &mut Answer) {

@@ -19,7 +19,7 @@ pub struct Played {
 /// for more fills than [`crate::MOST_FILLS`].
 ///
 /// ```
-/// use usm::{play, Action, Fill, Leg, Market, OptionType, Reason, Side, Style};
+/// use usm::{play, Action, Fill, Leg, Market, OptionType, Reason, Settlement, Side, Style};
 ///
 /// let held = Leg {
 ///     group: 0,
@@ -32,6 +32,7 @@ pub struct Played {
 ///     strike: 60_000,
 ///     expiry: 20110521,
 ///     contracts: 5,
+///     settlement: Settlement::NotStated,
 /// };
 /// let close = |contracts| Fill { action: Action::Close, leg: Leg { contracts, ..held } };
 /// let day = play(&[held], &[close(2), close(4), close(1)])?;

@@ -45,16 +45,16 @@ mod sheet;
 
 pub use block::{BLOCK_BYTES, LONGEST_FILE, MOST_BLOCKS};
 pub use calls::{
-    check_file, check_sheet, check_table, file_line, file_table, margin, margins, move_to_new, move_to_old,
-    play_fills, read_file, worksheet, write_file,
+    cash, check_file, check_sheet, check_table, file_line, file_table, margin, margins, move_to_new,
+    move_to_old, play_fills, read_file, worksheet, write_file,
 };
 pub use fills::{fill_table, play, Played};
 pub use form::{Form, Origin};
 pub use reason::Reason;
 pub use records::{
-    is_expiry, Action, Claim, Fill, Leg, Line, Market, OptionType, Series, Side, Style, Table, FILLS_TABLE,
-    GREATEST_AMOUNT, GREATEST_STRIKE, GREATEST_UNIT_SIZE, MOST_CLAIMS, MOST_CONTRACTS, MOST_FILLS, MOST_LEGS,
-    RECORD_BYTES,
+    is_expiry, Action, Claim, Fill, Leg, Line, Market, OptionType, Series, Settlement, Side, Style, Table,
+    FILLS_TABLE, GREATEST_AMOUNT, GREATEST_STRIKE, GREATEST_UNIT_SIZE, MOST_CLAIMS, MOST_CONTRACTS,
+    MOST_FILLS, MOST_LEGS, RECORD_BYTES,
 };
 pub use refusal::{Accepted, PlayCounts, RecordCounts, Refusal};
 pub use sheet::{claim_table, leg_table, Sheet, Tables};

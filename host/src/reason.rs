@@ -52,11 +52,13 @@ pub enum Reason {
     TooMuchHeld = 19,
     /// 20: a block's account is zero or not that of the first block; or a zero account was supplied.
     WrongAccount = 20,
+    /// 21: a group is not fit for a cash account: not all European, all stated as cash, and of one expiry.
+    NotFitForCash = 21,
 }
 
 impl Reason {
     /// All of them, in the order of their numbers.
-    pub const ALL: [Reason; 20] = [
+    pub const ALL: [Reason; 21] = [
         Reason::WrongSize,
         Reason::ChecksDiffer,
         Reason::BlockOutOfForm,
@@ -77,6 +79,7 @@ impl Reason {
         Reason::MoreClosedThanHeld,
         Reason::TooMuchHeld,
         Reason::WrongAccount,
+        Reason::NotFitForCash,
     ];
 
     /// Its number in documents 01 and 02.
@@ -95,10 +98,10 @@ mod tests {
     use super::*;
 
     #[test]
-    fn reasons_are_numbered_1_to_20() {
+    fn reasons_are_numbered_1_to_21() {
         let numbers: Vec<u64> = Reason::ALL.into_iter().map(Reason::number).collect();
-        assert_eq!(numbers, (1..=20).collect::<Vec<u64>>());
+        assert_eq!(numbers, (1..=21).collect::<Vec<u64>>());
         assert!(Reason::ALL.into_iter().all(|reason| Reason::of_number(reason.number()) == Some(reason)));
-        assert_eq!([0, 21, u64::MAX].map(Reason::of_number), [None; 3]);
+        assert_eq!([0, 22, u64::MAX].map(Reason::of_number), [None; 3]);
     }
 }

@@ -42,7 +42,7 @@ pub struct PlayCounts {
 /// `usm_check` prints.
 #[derive(Clone, Copy, Debug, PartialEq, Eq)]
 pub struct Refusal {
-    /// 1 to 20.
+    /// 1 to 21.
     pub number: u64,
     /// 0 none, 1 holdings, 2 placement, 3 claims, 4 fills.
     pub table: u64,

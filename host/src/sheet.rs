@@ -11,7 +11,7 @@ use crate::refusal::{Accepted, Refusal};
 /// A vertical of document 01's bench (P1), long the 60 call and short the 50:
 ///
 /// ```
-/// use usm::{Accepted, Claim, Leg, Market, OptionType, Reason, Sheet, Side, Style};
+/// use usm::{Accepted, Claim, Leg, Market, OptionType, Reason, Settlement, Sheet, Side, Style};
 ///
 /// let long = Leg {
 ///     group: 1,
@@ -24,6 +24,7 @@ use crate::refusal::{Accepted, Refusal};
 ///     strike: 60_000,
 ///     expiry: 20110521,
 ///     contracts: 1,
+///     settlement: Settlement::NotStated,
 /// };
 /// let short = Leg { side: Side::Short, strike: 50_000, ..long };
 /// let mut sheet = Sheet {
@@ -95,6 +96,11 @@ impl Sheet {
     /// The margin of group `g`, in mills.
     pub fn margin(&self, g: u64) -> Result<i64, Refusal> {
         calls::margin(&leg_table(&self.placement), g)
+    }
+
+    /// The cash that group `g` requires in a cash account, in mills.
+    pub fn cash(&self, g: u64) -> Result<i64, Refusal> {
+        calls::cash(&leg_table(&self.placement), g)
     }
 
     /// The distinct strikes of group `g`, ascending, each with the net at it.

@@ -199,7 +199,7 @@ fn numbers(text: &str) -> Vec<u64> {
     plain.split(|c: char| !c.is_ascii_digit()).filter_map(|word| word.parse().ok()).collect()
 }
 
-/// The rows `| bytes | field | range |` under a heading. A range is its first two numbers, or zero.
+/// The rows `| bytes | field | range |` under a heading. A range is its least and its greatest number, or zero.
 fn fields(heading: &str) -> Vec<Field> {
     let rules = page("docs/RULES.md");
     let table =
@@ -209,7 +209,8 @@ fn fields(heading: &str) -> Vec<Field> {
         let cells: Vec<&str> = row.split('|').map(str::trim).collect();
         let places = numbers(cells[1]);
         let range = numbers(cells[3]);
-        let (least, greatest) = if cells[3] == "zero" { (0, 0) } else { (range[0], range[1]) };
+        let [least, greatest] = [range.iter().min(), range.iter().max()].map(|end| *end.unwrap_or(&0));
+        assert!(!range.is_empty() || cells[3] == "zero", "{row}");
         let (first, last) = (places[0] as usize, *places.last().expect("a place") as usize);
         Field { bytes: first..last + 1, name: cells[2].into(), least, greatest }
     })
@@ -245,7 +246,7 @@ fn assert_ranges(fields: &[Field], record: &[u8], table: Table) {
 #[test]
 fn the_ranges_of_a_leg_and_of_a_claim_are_those_of_the_library() {
     let (legs, claims) = (fields("### A leg record"), fields("### A claim record"));
-    assert_eq!((legs.len(), claims.len()), (11, 4));
+    assert_eq!((legs.len(), claims.len()), (12, 4));
     assert_ranges(&legs, &leg_table(&[leg("L60c")]), Table::Placement);
     assert_ranges(&claims, &claim_table(&[Claim { group: 1, margin: 1_000_000 }]), Table::Claims);
 }

@@ -1,4 +1,4 @@
-// The calls on tables that answer with a number or a line: check, margin, sheet. Each prints its answer.
+// The calls on tables that answer with a number or a line: check, margin, cash, sheet. Each prints its answer.
 use crate::memory::table;
 use crate::print::print;
 use crate::print::print_mills;
@@ -27,12 +27,20 @@ pub(crate) fn check(memory: &[u8], sizes: &[usize], name: u8) {
     print(b"\n");
 }
 
-pub(crate) fn margin(placement: &[u8], g: usize) {
-    match spreads::margin(placement, g) {
+fn print_due(due: Due) {
+    match due {
         Due::Mills(mills) => print_mills(mills),
         Due::Refused(refusal) => print_refusal(refusal),
     }
     print(b"\n");
+}
+
+pub(crate) fn margin(placement: &[u8], g: usize) {
+    print_due(spreads::margin(placement, g));
+}
+
+pub(crate) fn cash(placement: &[u8], g: usize) {
+    print_due(spreads::cash(placement, g));
 }
 
 fn print_head(line: &[u8; LINE_BYTES], n: usize) {

@@ -4,8 +4,10 @@
 // answers is printed with its answer. Tables are named by a letter, h holdings, p placement,
 // c claims, d the day's fills, and the file by f; numbers are decimal.
 //
-//   h, p GROUP SIDE TYPE STYLE MARKET SIZE UNDERLYING STRIKE EXPIRY CONTRACTS   append a leg
-//   d .. CONTRACTS ACTION   append a fill: the numbers of a leg, then 1 open or 2 close
+//   h, p GROUP SIDE TYPE STYLE MARKET SIZE UNDERLYING STRIKE EXPIRY CONTRACTS   append a leg; where one
+//                           number more follows, it is the settlement
+//   d .. CONTRACTS ACTION   append a fill: the numbers of a leg, then 1 open or 2 close, then the
+//                           settlement likewise
 //   c GROUP MARGIN          append a claim
 //   fill T N STRIKE GROUP   append copies of the last record until there are N, each with so much
 //                           more strike and group than the one before
@@ -15,7 +17,7 @@
 //   seal BLOCK              put the two checks of a block of the file right
 //   clear                   empty all
 //   try h|p|c ..            empty a table, append the record and check the table
-//   check T · margin G · margins N ROOM · worksheet G STRIKES NETS · sheet
+//   check T · margin G · cash G · margins N ROOM · worksheet G STRIKES NETS · sheet
 //   write ROOM [FORM ACCOUNT] · file · table · read ROOM ROOM ROOM · judge
 //   to_new ACCOUNT ROOM · to_old ROOM    the file, moved, takes the file's place
 //   again [FORM ACCOUNT]    whether the tables, written, are the file
@@ -60,6 +62,10 @@ fn ask_tables(line: &[u8], memory: &[u8], sizes: &[usize]) -> bool {
     }
     if says(line, b"margin") {
         calls::margin(table(memory, sizes, b'p'), number(line, 1));
+        return true;
+    }
+    if says(line, b"cash") {
+        calls::cash(table(memory, sizes, b'p'), number(line, 1));
         return true;
     }
     if says(line, b"margins") {

@@ -197,5 +197,7 @@ others l =
 pub with-range : (l : Leg) (n : ℕ) → inRange 0 l ≡ true → 1 ≤ n → n ≤ 100000 → inRange 0 (withContracts l (contractsFrom n)) ≡ true
 unfolding inRange withContracts others
 with-range l n e a b =
-    let p : others l ≡ true = and-eq-true-iff (others l) (within 1 100000 (l .contracts .0)) .0 e .0 in
-    rw (p, le-leb 1 n a, le-leb n 100000 b)
+    let p = and-eq-true-iff (others l && within 1 100000 (l .contracts .0)) (within 0 2 (l .settlement)) .0 e in
+    let q : others l ≡ true = and-eq-true-iff (others l) (within 1 100000 (l .contracts .0)) .0 (p .0) .0 in
+    let r : within 0 2 (l .settlement) ≡ true = p .1 in
+    rw (q, le-leb 1 n a, le-leb n 100000 b, r)

@@ -6,7 +6,7 @@ use mathlib.Core.List.{List}
 use lib.Dec.{eqb}
 use lib.ListN.{length, getD, take, drop, List·getD-eq-default}
 use lib.Seq.{drop-cons}
-use borrow.Author.Tests.{ne-eqb}
+use borrow.Author.Tests.{eq-eqb, ne-eqb}
 use native.Mathlib.Numerals.{add-one, one-add}
 use native.Mathlib.Nat.{mul-zero, mul-suc, zero-add, add-zero, one-mul, suc-add, add-assoc, mul-add, mul-assoc, pow-succ', pow-zero}
 use native.Mathlib.Omega.{arith}
@@ -36,9 +36,18 @@ sum-zero k zero zero h = rw (mul-zero k)
 sum-zero k (suc a) b h = rw (not-zero (suc a) (omega arith), not-zero (suc a + k * b) (omega arith))
 sum-zero k zero (suc b) h = rw (not-zero (suc b) (omega arith), not-zero (0 + k * suc b) (omega (arith, mul-suc k b)))
 
+sum-same : (k a b : ℕ) → 1 ≤ k → eqb (a + k * b) a ≡ eqb b 0
+sum-same k a zero h = eq-eqb (a + k * 0) a (omega (arith, mul-zero k))
+sum-same k a (suc b) h =
+    rw (not-zero (suc b) (omega arith)) (ne-eqb (a + k * suc b) a (λ e. (let no : ⊥ = omega (arith, mul-suc k b) in no)))
+
 -- two numbers one behind the other are zero just where the number of both is
 pub zero-both : (xs : List ℕ) (m n at : ℕ) → 1 ≤ 256 ^ m → eqb (leAt xs at m) 0 && eqb (leAt xs (at + m) n) 0 ≡ eqb (leAt xs at (m + n)) 0
 zero-both xs m n at h = rw (leAt-split xs m n at) (sum-zero (256 ^ m) (leAt xs at m) (leAt xs (at + m) n) h)
+
+-- the high n bytes are zero just where the number of all is that of the low m
+pub high-zero : (xs : List ℕ) (m n at : ℕ) → 1 ≤ 256 ^ m → eqb (leAt xs at (m + n)) (leAt xs at m) ≡ eqb (leAt xs (at + m) n) 0
+high-zero xs m n at h = rw (leAt-split xs m n at) (sum-same (256 ^ m) (leAt xs at m) (leAt xs (at + m) n) h)
 
 zero-number : (xs : List ℕ) (w at : ℕ) → at + w ≤ length xs → allOf isZero (take w (drop at xs)) ≡ eqb (leAt xs at w) 0
 unfolding leAt allOf

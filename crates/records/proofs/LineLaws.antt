@@ -15,7 +15,7 @@ use Rattle.records.proofs.SameLaws.{same-refl, same-true, true-same, sa
 
 -- lines of one strike and one expiry are the same where the rest is
 pub line-rest : (a b : Leg) → a .strike ≡ b .strike → a .expiry ≡ b .expiry
-    → eqb (a .right) (b .right) && eqb (a .style) (b .style) && eqb (a .market) (b .market) && eqb (a .size) (b .size) && eqb (a .underlying) (b .underlying)
+    → eqb (a .right) (b .right) && eqb (a .style) (b .style) && eqb (a .market) (b .market) && eqb (a .size) (b .size) && eqb (a .underlying) (b .underlying) && eqb (a .settlement) (b .settlement)
     ≡ sameLine a b
 unfolding sameLine same
 line-rest a b s e = simp (eq-eqb (a .strike) (b .strike) s, eq-eqb (a .expiry) (b .expiry) e, and-true, and-assoc)

@@ -40,6 +40,7 @@ pub record Ranges (top : ℕ) (l : Leg) : Type 0 where
   pub strike : (1 ≤ l .strike) × (l .strike ≤ 99999999)
   pub expiry : (20000101 ≤ l .expiry) × (l .expiry ≤ 20991231)
   pub contracts : (1 ≤ l .contracts .0) × (l .contracts .0 ≤ 100000)
+  pub settlement : l .settlement ≤ 2
 
 pub within-true : (low high x : ℕ) → within low high x ≡ true → (low ≤ x) × (x ≤ high)
 within-true low high x e =
@@ -53,7 +54,8 @@ date-true n e = within-true 20000101 20991231 n (and-eq-true-iff _ _ .0 e .0)
 pub ranges : (top : ℕ) (l : Leg) → inRange top l ≡ true → Ranges top l
 unfolding inRange
 ranges top l e =
-    let p9 = and-eq-true-iff _ _ .0 e in
+    let p10 = and-eq-true-iff _ _ .0 e in
+    let p9 = and-eq-true-iff _ _ .0 (p10 .0) in
     let p8 = and-eq-true-iff _ _ .0 (p9 .0) in
     let p7 = and-eq-true-iff _ _ .0 (p8 .0) in
     let p6 = and-eq-true-iff _ _ .0 (p7 .0) in
@@ -73,13 +75,14 @@ ranges top l e =
       strike = within-true 1 99999999 (l .strike) (p7 .1);
       expiry = date-true (l .expiry) (p8 .1);
       contracts = within-true 1 100000 (l .contracts .0) (p9 .1);
+      settlement = within-true 0 2 (l .settlement) (p10 .1) .1;
     }
 
 pub good-ranges : (top : ℕ) (xs : List ℕ) → goodLeg top xs ≡ true → Ranges top (legOf xs)
 unfolding goodLeg
 good-ranges top xs e =
-    let p = and-eq-true-iff (eqb (length xs) 32) (inRange top (legOf xs) && zeroIn xs 24 31) .0 e in
-    ranges top (legOf xs) (and-eq-true-iff (inRange top (legOf xs)) (zeroIn xs 24 31) .0 (p .1) .0)
+    let p = and-eq-true-iff (eqb (length xs) 32) _ .0 e in
+    ranges top (legOf xs) (and-eq-true-iff (inRange top (legOf xs)) _ .0 (p .1) .0)
 
 -- a leg's units are at most 100,000,000, and at least one
 pub units-small : (top : ℕ) (l : Leg) → Ranges top l → (1 ≤ units l) × (units l ≤ 100000000)

@@ -28,6 +28,7 @@ legFields xs =
       strike = leAt xs 12 4;
       expiry = leAt xs 16 4;
       contracts = contractsFrom (leAt xs 20 4);
+      settlement = leAt xs 24 1;
     }
 
 -- the fields of a part of at least 32 bytes; those of a shorter one are all zero, as of no bytes
@@ -44,7 +45,8 @@ legBytes l =
     ++ leBytes (l .strike) 4
     ++ leBytes (l .expiry) 4
     ++ leBytes (l .contracts .0) 4
-    ++ replicate 8 0
+    ++ (l .settlement ∷ [])
+    ++ replicate 7 0
 
 -- each field's range; the group is at most `top`
 unfoldable pub inRange : ℕ → Leg → Bool
@@ -59,10 +61,11 @@ inRange top l =
     && within 1 99999999 (l .strike)
     && realDate (l .expiry)
     && within 1 100000 (l .contracts .0)
+    && within 0 2 (l .settlement)
 
--- 32 bytes, each field in its range, bytes 24 to 31 zero
+-- 32 bytes, each field in its range, bytes 25 to 31 zero
 unfoldable pub goodLeg : ℕ → List ℕ → Bool
-goodLeg top xs = eqb (length xs) 32 && (inRange top (legOf xs) && zeroIn xs 24 31)
+goodLeg top xs = eqb (length xs) 32 && (inRange top (legOf xs) && zeroIn xs 25 31)
 
 -- ---- what a leg's fields mean
 
@@ -80,6 +83,10 @@ isPut l = eqb (l .right) 2
 
 abbrev pub isEuropean : Leg → Bool
 isEuropean l = eqb (l .style) 2
+
+-- 'stated as cash'
+abbrev pub isCash : Leg → Bool
+isCash l = eqb (l .settlement) 1
 
 -- ---- contracts and units
 
@@ -119,4 +126,5 @@ withContracts l c =
       strike = l .strike;
       expiry = l .expiry;
       contracts = c;
+      settlement = l .settlement;
     }

@@ -9,9 +9,9 @@ use Rattle.records.specs.declared.legs.Leg.{Leg}
 abbrev pub seriesOf : Leg → List ℕ
 seriesOf l = l .right ∷ l .strike ∷ l .expiry ∷ l .size ∷ []
 
--- 'A line is all of type, style, market, unit size, underlying, strike, expiry.'
+-- 'A line is all of type, style, market, unit size, underlying, strike, expiry', and from request [7] on settlement
 abbrev pub lineOf : Leg → List ℕ
-lineOf l = l .right ∷ l .style ∷ l .market ∷ l .size ∷ l .underlying ∷ l .strike ∷ l .expiry ∷ []
+lineOf l = l .right ∷ l .style ∷ l .market ∷ l .size ∷ l .underlying ∷ l .strike ∷ l .expiry ∷ l .settlement ∷ []
 
 -- 'each line and side'
 abbrev pub lineSideOf : Leg → List ℕ

@@ -26,6 +26,9 @@ pub const PUT: u8 = 2;
 // 'style': 1 American, 2 European
 pub const EUROPEAN: u8 = 2;
 
+// 'settlement': 0 not stated, 1 cash, 2 physical
+pub const CASH: u8 = 1;
+
 pub struct Leg {
     pub group: u16,
     // LONG or SHORT
@@ -44,6 +47,8 @@ pub struct Leg {
     // YYYYMMDD
     pub expiry: u32,
     pub contracts: Contracts,
+    // CASH, or 2 for physical, or 0 where it is not stated
+    pub settlement: u8,
 }
 
 impl Leg {
@@ -70,6 +75,7 @@ fn leg_fields(part: &[u8]) -> Leg
         strike: u32_in(part, 12),
         expiry: u32_in(part, 16),
         contracts: Contracts(u32_in(part, 20)),
+        settlement: u8_in(part, 24),
     }
 }
 
@@ -93,6 +99,7 @@ pub fn leg_at(table: &[u8], i: usize) -> Leg
         strike: 0,
         expiry: 0,
         contracts: Contracts(0),
+        settlement: 0,
     }
 }
 
@@ -125,7 +132,7 @@ pub fn leg_bytes(leg: Leg) -> [u8; 32]
         (leg.contracts.0 / 256 % 256) as u8,
         (leg.contracts.0 / 256 / 256 % 256) as u8,
         (leg.contracts.0 / 256 / 256 / 256 % 256) as u8,
-        0,
+        leg.settlement,
         0,
         0,
         0,
@@ -149,14 +156,17 @@ fn in_range(top: u16, leg: Leg) -> bool
         & is_within(1, 99999999, leg.strike)
         & real_date(leg.expiry)
         & is_within(1, 100000, leg.contracts.number())
+        & is_within(0, 2, leg.settlement as u32)
 }
 
-// Whether the part is a leg record with each field in its range and a group of at most `top`.
+// Whether the part is a leg record with each field in its range and a group of at most `top`. The filler is zero
+// just where the number of the last eight bytes is their first.
 pub(crate) fn good_leg(top: u16, part: &[u8]) -> bool
     ensures { λ r. ⌜ r ≡ goodLeg top (now (part .entry)) ⌝ }
 {
     if part.len() != RECORD_BYTES {
         return false;
     }
-    in_range(top, leg_fields(part)) & (u64_in(part, 24) == 0)
+    let leg = leg_fields(part);
+    in_range(top, leg) & (u64_in(part, 24) == leg.settlement as u64)
 }

@@ -14,12 +14,16 @@ use Rattle.sheets.specs.declared.links.Digits.{Digits}
 unfoldable pub bucketOf : Leg → ℕ
 bucketOf l = (l .strike + 3 * l .expiry + 31 * l .underlying + 7 * l .side + 5 * l .right) % 509
 
+-- the fields of few values as one number
+abbrev pub sortsOf : Leg → ℕ
+sortsOf l = l .side + 2 * l .right + 4 * l .style + 8 * l .market + 16 * l .settlement
+
 -- the line and side of a leg as two numbers, read digit by digit to the base 8
 unfoldable pub digitsOf : Leg → Digits
 digitsOf l =
     record {
       these = l .strike + 134217728 * l .expiry;
-      those = l .underlying + 4294967296 * l .size + 4398046511104 * (l .side + 2 * l .right + 4 * l .style + 8 * l .market);
+      those = l .underlying + 4294967296 * l .size + 4398046511104 * sortsOf l;
     }
 
 -- the digits after the first

@@ -4,7 +4,7 @@ ghost use mathlib.Core.Path.{_≡_};
 ghost use Prim.Native.Nat.{_+_, _*_, _/_, _≤_, _<_};
 ghost use lib.ListN.{length};
 ghost use Rattle.sheets.specs.Numbered.{legIn};
-ghost use Rattle.sheets.specs.Links.{bucketOf, digitsOf, restOf, linkBelow, Rising, Ends};
+ghost use Rattle.sheets.specs.Links.{bucketOf, sortsOf, digitsOf, restOf, linkBelow, Rising, Ends};
 use crate::both::FEW_BOTH;
 use crate::both::MOST_BOTH;
 use crate::both::leg_in;
@@ -38,16 +38,24 @@ struct Digits {
     those: u64,
 }
 
+// The fields of few values as one number.
+fn sorts_of(leg: Leg) -> u64
+    ensures { λ r. ⌜ (r ≡ sortsOf leg) × (r ≤ 7905) ⌝ }
+{
+    leg.side as u64
+        + 2 * (leg.right as u64)
+        + 4 * (leg.style as u64)
+        + 8 * (leg.market as u64)
+        + 16 * (leg.settlement as u64)
+}
+
 fn digits_of(leg: Leg) -> Digits
     ensures { λ r. ⌜ r ≡ digitsOf leg ⌝ }
 {
-    let terms = leg.side as u64
-        + 2 * (leg.right as u64)
-        + 4 * (leg.style as u64)
-        + 8 * (leg.market as u64);
+    let sorts = sorts_of(leg);
     Digits {
         these: leg.strike as u64 + 134217728 * (leg.expiry as u64),
-        those: leg.underlying as u64 + 4294967296 * (leg.size as u64) + 4398046511104 * terms,
+        those: leg.underlying as u64 + 4294967296 * (leg.size as u64) + 4398046511104 * sorts,
     }
 }
 

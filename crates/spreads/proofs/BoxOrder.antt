@@ -7,10 +7,11 @@ use native.Mathlib.Decide.{decLt}
 use native.Mathlib.Omega.{arith}
 use lib.Dec.{eqb}
 use Rattle.records.specs.Lists.{only, sumOf, All}
+use Rattle.records.specs.Legs.{withContracts}
 use Rattle.records.specs.declared.legs.Leg.{Leg}
 use Rattle.spreads.specs.Strikes.{insert, strikesOf}
 use Rattle.spreads.specs.Boxes.{unitsAt, isBoxLeg, LongBox}
-use Rattle.spreads.specs.Demands.{withContracts}
+use Rattle.spreads.specs.Demands.{ofContracts}
 use Rattle.spreads.proofs.Inserting.{inserting}
 use Rattle.spreads.proofs.Inserting as at
 
@@ -134,8 +135,8 @@ kind-split : (t : Bool) (m n size : ℕ) → only t ((m + n) * size) ≡ only t 
 kind-split true m n size = omega arith
 kind-split false m n size = omega arith
 
-split : (l : Leg) (m n : ℕ) (b : List Leg) → SameLegs (withContracts (m + n) l ∷ b) (withContracts m l ∷ withContracts n l ∷ b)
-unfolding strikesOf unitsAt sumOf isBoxLeg
+split : (l : Leg) (m n : ℕ) (b : List Leg) → SameLegs (ofContracts (m + n) l ∷ b) (ofContracts m l ∷ ofContracts n l ∷ b)
+unfolding withContracts strikesOf unitsAt sumOf isBoxLeg
 split l m n b =
     record {
       strikes = insert-twice (l .strike) (strikesOf b);
@@ -145,12 +146,12 @@ split l m n b =
       kinds = λ low high p. (p .0, (p .0, p .1));
     }
 
-pub box-split : (a b : List Leg) (l : Leg) (m n : ℕ) → LongBox (a ++ withContracts (m + n) l ∷ b) → LongBox (a ++ withContracts m l ∷ withContracts n l ∷ b)
-box-split a b l m n = box-same _ _ (same-behind a (withContracts (m + n) l ∷ b) (withContracts m l ∷ withContracts n l ∷ b) (split l m n b))
+pub box-split : (a b : List Leg) (l : Leg) (m n : ℕ) → LongBox (a ++ ofContracts (m + n) l ∷ b) → LongBox (a ++ ofContracts m l ∷ ofContracts n l ∷ b)
+box-split a b l m n = box-same _ _ (same-behind a (ofContracts (m + n) l ∷ b) (ofContracts m l ∷ ofContracts n l ∷ b) (split l m n b))
 
 -- and the other way, two records of one line made one
-joined : (l : Leg) (m n : ℕ) (b : List Leg) → SameLegs (withContracts m l ∷ withContracts n l ∷ b) (withContracts (m + n) l ∷ b)
-unfolding isBoxLeg
+joined : (l : Leg) (m n : ℕ) (b : List Leg) → SameLegs (ofContracts m l ∷ ofContracts n l ∷ b) (ofContracts (m + n) l ∷ b)
+unfolding withContracts isBoxLeg
 joined l m n b =
     let s = split l m n b in
     record {
@@ -161,5 +162,5 @@ joined l m n b =
       kinds = λ low high p. (p .0, p .1 .1);
     }
 
-pub box-join : (a b : List Leg) (l : Leg) (m n : ℕ) → LongBox (a ++ withContracts m l ∷ withContracts n l ∷ b) → LongBox (a ++ withContracts (m + n) l ∷ b)
-box-join a b l m n = box-same _ _ (same-behind a (withContracts m l ∷ withContracts n l ∷ b) (withContracts (m + n) l ∷ b) (joined l m n b))
+pub box-join : (a b : List Leg) (l : Leg) (m n : ℕ) → LongBox (a ++ ofContracts m l ∷ ofContracts n l ∷ b) → LongBox (a ++ ofContracts (m + n) l ∷ b)
+box-join a b l m n = box-same _ _ (same-behind a (ofContracts m l ∷ ofContracts n l ∷ b) (ofContracts (m + n) l ∷ b) (joined l m n b))

@@ -48,7 +48,7 @@ module _ {t : Leg → Bool} {xs ms : List ℕ} {i : ℕ} (p : Passed t xs ms i) 
 
 -- ---- each leg by itself
 
-one-first : (legs ls : List Leg) (l : Leg) → legs ≡ l ∷ ls → allOf (λ k. eqb (k .expiry) (l .expiry)) legs ≡ oneOf (λ k. k .expiry) legs
+pub one-first : (legs ls : List Leg) (l : Leg) → legs ≡ l ∷ ls → allOf (λ k. eqb (k .expiry) (l .expiry)) legs ≡ oneOf (λ k. k .expiry) legs
 unfolding allOf oneOf
 one-first legs ls l e = rw (e, eq-eqb (l .expiry) (l .expiry) refl)
 

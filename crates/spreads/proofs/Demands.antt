@@ -15,7 +15,7 @@ use Rattle.spreads.specs.Prices.{net}
 use Rattle.spreads.specs.Spreads.{groupIn}
 use Rattle.spreads.specs.Strikes.{strikesOf, netsOf}
 use Rattle.spreads.specs.Calls.{groupChecks, listedAnswer, listedAfter, strikesListed, worksheetCall, listLeft, marginsFrom, groupsChecks, marginsCall}
-use Rattle.spreads.specs.Demands.{merged, SpreadJust, StrikesJust, WorstIsGreatest, Leaves, WorksheetLeaves, MarginsLeave, BoxJust, BoxAnyOrder, BoxAnySplit, BoxNets, MarginsJust, JoiningLoses, JoiningCosts}
+use Rattle.spreads.specs.Demands.{merged, SpreadJust, StrikesJust, WorstIsGreatest, Leaves, WorksheetLeaves, MarginsLeave, BoxJust, BoxAnyOrder, BoxAnySplit, BoxNets, MarginsJust, FitJust, CashRight, CashGiven, JoiningLoses, JoiningCosts}
 use Rattle.spreads.specs.declared.calls.Listed.{Listed}
 use Rattle.spreads.specs.declared.calls.Listed.the-variants.{Entries, Refused}
 use Rattle.spreads.proofs.RuleLaws.{no-refusal-to-spread, spread-to-no-refusal}
@@ -23,7 +23,9 @@ use Rattle.spreads.proofs.StrikeLaws.{strikes-have, strikes-from, strik
 use Rattle.spreads.proofs.Nets.{worst-greatest}
 use Rattle.spreads.proofs.MarginLists.{length-margins}
 use Rattle.spreads.proofs.Merge.{merge-groups}
-use Rattle.spreads.proofs.BoxLaws.{test-to-box, box-to-test, no-box-test, box-margin, other-margin, box-nets, merge-margins}
+use Rattle.spreads.proofs.Cover.{cover, nothing-less}
+use Rattle.spreads.proofs.CashLaws.{fit-facts, facts-fit, answered, given}
+use Rattle.spreads.proofs.BoxLaws.{test-to-box, box-to-test, no-box-test, box-margin, other-margin, box-nets, box-worst, merge-margins}
 use Rattle.spreads.proofs.BoxOrder.{box-swap, box-split, box-join}
 
 pub spread-just : SpreadJust
@@ -51,6 +53,26 @@ boxes-net = box-nets
 
 pub margins-just : MarginsJust
 margins-just legs = record { box = box-margin legs; other = λ h. other-margin legs (no-box-test legs h) }
+
+-- ---- cash accounts
+
+pub fit-just : FitJust
+fit-just legs = (fit-facts legs, facts-fit legs)
+
+pub cash-right : CashRight
+cash-right placement g mills e =
+    let p = answered placement g mills e in
+    record {
+      spread = p .0;
+      fit = p .1;
+      margin = p .2;
+      covers = λ d h n. rw (p .2) (cover (groupIn placement g) (p .0 .calls) (p .0 .puts) d n);
+      least = λ m h all. let x = nothing-less (groupIn placement g) m (rw (p .2) at h) in omega (arith, all 1 (omega arith) (x .0 .strike), x .2);
+      box = λ b. p .2 ∙ box-worst (groupIn placement g) b;
+    }
+
+pub cash-given : CashGiven
+cash-given = given
 
 -- ---- what is left in a lent slice
 

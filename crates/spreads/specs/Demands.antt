@@ -10,16 +10,19 @@ use lib.IntN.{ℤ, pos, negℤ}
 use lib.ListN.{length, take, drop}
 use lib.Signed.{_≤ℤ_}
 use Rattle.records.specs.Lists.{keep, All}
-use Rattle.records.specs.Legs.{contractsFrom}
+use Rattle.records.specs.Legs.{contractsFrom, withContracts}
 use Rattle.records.specs.Order.{firstOf}
-use Rattle.records.specs.Tables.{legsOf}
+use Rattle.records.specs.Tables.{tableChecks, legsOf}
 use Rattle.records.specs.declared.legs.Leg.{Leg}
 use Rattle.records.specs.declared.refusals.Fault.the-variants.{Nothing}
+use Rattle.records.specs.declared.tables.Kind.the-variants.{Placement}
 use Rattle.spreads.specs.Spreads.{groupOf, groupIn, Spread, groupRule}
 use Rattle.spreads.specs.Prices.{longAt, shortAt, at}
 use Rattle.spreads.specs.Strikes.{strikesOf, worstLoss, netsOf}
 use Rattle.spreads.specs.Boxes.{LongBox, isLongBox, halfOf, marginOf}
+use Rattle.spreads.specs.Cash.{FitForCash, isFit, cashCall}
 use Rattle.spreads.specs.Calls.{worksheetCall, listLeft, marginsFrom, marginsCall}
+use Rattle.spreads.specs.declared.calls.Due.the-variants.{Mills}
 use Rattle.spreads.specs.declared.calls.Listed.{Listed}
 use Rattle.spreads.specs.declared.calls.Listed.the-variants.{Entries, Refused}
 
@@ -52,20 +55,8 @@ abbrev pub BoxJust : Type 0
 BoxJust = (legs : List Leg) → (isLongBox legs ≡ true) ↔ LongBox legs
 
 -- the leg with so many contracts
-abbrev pub withContracts : ℕ → Leg → Leg
-withContracts n l =
-    record {
-      group = l .group;
-      side = l .side;
-      right = l .right;
-      style = l .style;
-      market = l .market;
-      size = l .size;
-      underlying = l .underlying;
-      strike = l .strike;
-      expiry = l .expiry;
-      contracts = contractsFrom n;
-    }
+abbrev pub ofContracts : ℕ → Leg → Leg
+ofContracts n l = withContracts l (contractsFrom n)
 
 -- 'records of one kind added together': neither the order of records nor how one is split makes or unmakes a long box
 abbrev pub BoxAnyOrder : Type 0
@@ -73,7 +64,7 @@ BoxAnyOrder = (a b : List Leg) (x y : Leg) → LongBox (a ++ x ∷ y ∷ b) ↔ 
 
 abbrev pub BoxAnySplit : Type 0
 BoxAnySplit = (a b : List Leg) (l : Leg) (m n : ℕ)
-    → LongBox (a ++ withContracts (m + n) l ∷ b) ↔ LongBox (a ++ withContracts m l ∷ withContracts n l ∷ b)
+    → LongBox (a ++ ofContracts (m + n) l ∷ b) ↔ LongBox (a ++ ofContracts m l ∷ ofContracts n l ∷ b)
 
 -- at every price n/d, both sides taken d times, a long box nets units times the difference
 abbrev pub BoxNets : Type 0
@@ -87,6 +78,34 @@ pub record MarginJust (legs : List Leg) : Type 0 where
 
 abbrev pub MarginsJust : Type 0
 MarginsJust = (legs : List Leg) → MarginJust legs
+
+-- ---- 'Cash accounts'
+
+-- the check passes just where the sentence holds
+abbrev pub FitJust : Type 0
+FitJust = (legs : List Leg) → (isFit legs ≡ true) ↔ FitForCash legs
+
+-- an amount covers a group at every price n/d, both sides taken d times
+abbrev pub CashCovers : ℕ → List Leg → Type 0
+CashCovers mills legs = (d : ℕ) → 1 ≤ d → (n : ℕ) → shortAt d (at n) legs ≤ longAt d (at n) legs + d * mills
+
+-- 'a spread, all European, all stated as cash, one expiry; then the cash required is its margin by document 01': it covers
+-- the group at every price, and nothing less does; a long box needs none
+pub record RightCash (g mills : ℕ) (legs : List Leg) : Type 0 where
+  pub spread : Spread g legs
+  pub fit : FitForCash legs
+  pub margin : mills ≡ worstLoss legs
+  pub covers : CashCovers mills legs
+  pub least : (m : ℕ) → m < mills → ¬ CashCovers m legs
+  pub box : LongBox legs → mills ≡ 0
+
+abbrev pub CashRight : Type 0
+CashRight = (placement : List ℕ) (g mills : ℕ) → cashCall placement g ≡ Mills (pos mills) → RightCash g mills (groupIn placement g)
+
+-- and every such group of a sound placement gets an amount
+abbrev pub CashGiven : Type 0
+CashGiven = (placement : List ℕ) (g : ℕ) → firstOf (tableChecks Placement placement) ≡ Nothing → Spread g (groupIn placement g)
+    → FitForCash (groupIn placement g) → cashCall placement g ≡ Mills (pos (worstLoss (groupIn placement g)))
 
 -- ---- what is left in lent slices
 

@@ -1,4 +1,5 @@
-// What a group is asked: half the difference for a European long box, its worst loss otherwise.
+// What a group is asked: half the difference for a European long box, its worst loss otherwise; in a cash account
+// the worst loss of any.
 ghost use mathlib.Core.Path.{_≡_};
 ghost use Prim.Native.Nat.{_≤_};
 ghost use lib.ListN.{length};
@@ -6,6 +7,7 @@ ghost use Rattle.records.specs.Claims.{mostMills};
 ghost use Rattle.spreads.specs.Spreads.{groupIn};
 ghost use Rattle.spreads.specs.Strikes.{strikesOf};
 ghost use Rattle.spreads.specs.Boxes.{marginOf};
+ghost use Rattle.spreads.specs.Cash.{requiredOf};
 ghost use Rattle.spreads.specs.Steps.{Checked};
 ghost use Rattle.spreads.specs.Members.{legsAt, OneGroup};
 ghost use Rattle.spreads.specs.Links.{Linked};
@@ -41,8 +43,29 @@ fn margin_at(
     }
 }
 
-// The margin of a spread whose legs stand at these places; what is lent has room for each leg.
-fn margin_with(
+// The margin, or where nothing is halved the worst loss.
+fn required_at(
+    halved: bool,
+    placement: &[u8],
+    members: &[u16],
+    list: &[u32],
+    strikes: &mut [u32],
+    units: &mut [u32],
+) -> u64
+    requires { ⌜ OneGroup (now placement) (now members) ⌝ }
+    requires { ⌜ now list ≡ strikesOf (legsAt (now placement) (now members)) ⌝ }
+    requires { ⌜ (length (now members) ≤ length (now strikes)) × (length (now members) ≤ length (now units)) ⌝ }
+    ensures { λ r. ⌜ (r ≡ requiredOf halved (legsAt (now (placement .entry)) (now (members .entry)))) × (r ≤ mostMills) ⌝ }
+{
+    if halved {
+        return margin_at(placement, members, list, strikes, units);
+    }
+    worst_at(placement, members, list, strikes, units)
+}
+
+// The same of a spread whose legs stand at these places; what is lent has room for each leg.
+fn required_with(
+    halved: bool,
     placement: &[u8],
     members: &[u16],
     list: &mut [u32],
@@ -52,27 +75,41 @@ fn margin_with(
     requires { ⌜ OneGroup (now placement) (now members) ⌝ }
     requires { ⌜ length (now members) ≤ length (now list) ⌝ }
     requires { ⌜ (length (now members) ≤ length (now strikes)) × (length (now members) ≤ length (now units)) ⌝ }
-    ensures { λ r. ⌜ (r ≡ marginOf (legsAt (now (placement .entry)) (now (members .entry)))) × (r ≤ mostMills) ⌝ }
+    ensures { λ r. ⌜ (r ≡ requiredOf halved (legsAt (now (placement .entry)) (now (members .entry)))) × (r ≤ mostMills) ⌝ }
 {
     let count = list_strikes(placement, members, list);
-    margin_at(placement, members, &list[..count], strikes, units)
+    required_at(halved, placement, members, &list[..count], strikes, units)
 }
 
 // The same with room of its own. Small groups are many: they spare the clearing of room for the largest.
-fn margin_of(placement: &[u8], members: &[u16]) -> u64
+pub(crate) fn required_of(halved: bool, placement: &[u8], members: &[u16]) -> u64
     requires { ⌜ OneGroup (now placement) (now members) ⌝ }
-    ensures { λ r. ⌜ (r ≡ marginOf (legsAt (now (placement .entry)) (now (members .entry)))) × (r ≤ mostMills) ⌝ }
+    ensures { λ r. ⌜ (r ≡ requiredOf halved (legsAt (now (placement .entry)) (now (members .entry)))) × (r ≤ mostMills) ⌝ }
 {
     if members.len() <= FEW_LEGS {
         let mut list = [0u32; FEW_LEGS];
         let mut strikes = [0u32; FEW_LEGS];
         let mut units = [0u32; FEW_LEGS];
-        return margin_with(placement, members, &mut list, &mut strikes, &mut units);
+        return required_with(
+            halved,
+            placement,
+            members,
+            &mut list,
+            &mut strikes,
+            &mut units,
+        );
     }
     let mut list = [0u32; MOST_LEGS];
     let mut strikes = [0u32; MOST_LEGS];
     let mut units = [0u32; MOST_LEGS];
-    margin_with(placement, members, &mut list, &mut strikes, &mut units)
+    required_with(
+        halved,
+        placement,
+        members,
+        &mut list,
+        &mut strikes,
+        &mut units,
+    )
 }
 
 // The margin of group g of a checked placement.
@@ -83,5 +120,5 @@ pub(crate) fn group_margin(placement: &[u8], links: &[u16], g: usize) -> u64
 {
     let mut members = [0u16; MOST_LEGS];
     let count = find_members(placement, links, g, &mut members);
-    margin_of(placement, &members[..count])
+    required_of(true, placement, &members[..count])
 }

@@ -1,6 +1,6 @@
 -- An amount of an answer is never below zero, so that the word for it is the amount itself.
 use mathlib.Core.Path.{_≡_, refl}
-use mathlib.Core.List.{List}
+use mathlib.Core.List.{List, _++_}
 use Prim.Native.Nat.{ℕ}
 use native.Mathlib.Omega.{arith}
 use lib.Dec.{T}
@@ -10,10 +10,13 @@ use mir.Syntax.{w64}
 use mir.Val.{Fits, SFits, toZ, ofZ}
 use mir.Facts.{toZ-ofZ}
 use Rattle.records.specs.Order.{firstOf}
+use Rattle.records.specs.Tables.{tableChecks, legsOf}
 use Rattle.records.specs.declared.refusals.Fault.{Fault}
 use Rattle.records.specs.declared.refusals.Fault.the-variants.{Nothing, Is}
+use Rattle.records.specs.declared.tables.Kind.the-variants.{Placement}
 use Rattle.blocks.specs.Reader.{readChecks}
 use Rattle.spreads.specs.Calls.{dueAnswer, groupChecks, marginCall}
+use Rattle.spreads.specs.Cash.{cashRule, cashCall}
 use Rattle.sheets.specs.Sheets.{sheetChecks}
 use Rattle.sheets.specs.Verdicts.{verdictIn, verdictOf}
 use Rattle.sheets.specs.declared.sheet.Verdict.{Verdict}
@@ -41,6 +44,10 @@ after-mills (Is r) v h = tt
 pub margin-mills : (placement : List ℕ) (g : ℕ) → DueMills (marginCall placement g)
 unfolding marginCall
 margin-mills placement g = due-mills (firstOf (groupChecks placement g)) _
+
+pub cash-mills : (placement : List ℕ) (g : ℕ) → DueMills (cashCall placement g)
+unfolding cashCall
+cash-mills placement g = due-mills (firstOf (tableChecks Placement placement ++ cashRule g (legsOf placement))) _
 
 pub sheet-mills : (h p c : List ℕ) → VerdictMills (verdictOf h p c)
 unfolding verdictOf

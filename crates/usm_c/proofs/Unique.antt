@@ -12,6 +12,7 @@ use Rattle.blocks.specs.Moves.{moveOf}
 use Rattle.blocks.specs.declared.forms.Form.{Form}
 use Rattle.blocks.specs.declared.forms.Origin.{Origin}
 use Rattle.spreads.specs.Calls.{marginCall}
+use Rattle.spreads.specs.Cash.{cashCall}
 use Rattle.sheets.specs.Verdicts.{verdictOf}
 use Rattle.verdicts.specs.FileVerdicts.{fileVerdict}
 use Rattle.verdicts.specs.TableText.{tableText}
@@ -25,6 +26,9 @@ check-table-unique kind table a b = one-outcome
 
 margin-unique : (placement : List ℕ) (g : ℕ) (a b : List ℕ) → a ≡ dueWords (marginCall placement g) → b ≡ dueWords (marginCall placement g) → a ≡ b
 margin-unique placement g a b = one-outcome
+
+cash-unique : (placement : List ℕ) (g : ℕ) (a b : List ℕ) → a ≡ dueWords (cashCall placement g) → b ≡ dueWords (cashCall placement g) → a ≡ b
+cash-unique placement g a b = one-outcome
 
 check-sheet-unique : (h p c a b : List ℕ) → a ≡ verdictWords (verdictOf h p c) → b ≡ verdictWords (verdictOf h p c) → a ≡ b
 check-sheet-unique h p c a b = one-outcome

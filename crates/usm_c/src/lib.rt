@@ -10,6 +10,7 @@ ghost use Rattle.blocks.specs.File.{tables};
 ghost use Rattle.blocks.specs.Moves.{moveOf};
 ghost use Rattle.blocks.specs.declared.forms.Form.the-variants.{Old, New};
 ghost use Rattle.spreads.specs.Calls.{marginCall};
+ghost use Rattle.spreads.specs.Cash.{cashCall};
 ghost use Rattle.sheets.specs.Verdicts.{verdictOf};
 ghost use Rattle.verdicts.specs.FileVerdicts.{fileVerdict};
 ghost use Rattle.verdicts.specs.TableText.{tableText};
@@ -45,6 +46,14 @@ pub extern "C" fn usm_margin(placement: &[u8], g: u64, answer: &mut [u64; 4])
     ensures { λ _. ⌜ now (answer .exit) ≡ dueWords (marginCall (now (placement .entry)) g) ⌝ }
 {
     *answer = due_words(spreads::margin(placement, g as usize));
+}
+
+// The cash required for group g of a placement in a cash account.
+#[no_mangle]
+pub extern "C" fn usm_cash(placement: &[u8], g: u64, answer: &mut [u64; 4])
+    ensures { λ _. ⌜ now (answer .exit) ≡ dueWords (cashCall (now (placement .entry)) g) ⌝ }
+{
+    *answer = due_words(spreads::cash(placement, g as usize));
 }
 
 // The margins of groups 1 to n.

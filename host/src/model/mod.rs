@@ -32,6 +32,12 @@ pub fn margin(placement: &[u8], g: u64) -> Result<i64, Refusal> {
     Ok(spread::margin(&spread::of_group(&placement, g)?))
 }
 
+/// The cash required for group `g` in a cash account, in mills.
+pub fn cash(placement: &[u8], g: u64) -> Result<i64, Refusal> {
+    let placement = tables::placement(placement)?;
+    spread::cash(&spread::of_group(&placement, g)?, g)
+}
+
 /// The margins of groups 1 to `n`, from `out[0]`.
 pub fn margins(placement: &[u8], n: u64, out: &mut [i64]) -> Result<usize, Refusal> {
     let margins = spread::margins(&tables::placement(placement)?, n)?;

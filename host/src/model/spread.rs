@@ -1,7 +1,7 @@
 //! "The rule of a spread": one group's legs, its worksheet and its margin.
 
 use super::boxes;
-use crate::records::{Leg, OptionType, Side, Table, MOST_CLAIMS};
+use crate::records::{Leg, OptionType, Settlement, Side, Style, Table, MOST_CLAIMS};
 use crate::refusal::Refusal;
 
 /// One row of a worksheet.
@@ -101,6 +101,19 @@ pub fn margin(legs: &[Leg]) -> i64 {
     match boxes::aggregate_difference(legs) {
         Some(mills) => (mills + 1) / 2,
         None => worst_loss(legs),
+    }
+}
+
+/// "Cash accounts", document 02, [7]: the margin by document 01 of a spread that is all European, all stated
+/// as cash and of one expiry; or 21.
+pub fn cash(legs: &[Leg], g: u64) -> Result<i64, Refusal> {
+    let fit = |leg: &Leg| {
+        leg.style == Style::European && leg.settlement == Settlement::Cash && leg.expiry == legs[0].expiry
+    };
+    if legs.iter().all(fit) {
+        Ok(worst_loss(legs))
+    } else {
+        Err(Refusal::new(21, Table::Placement.number(), g))
     }
 }
 

@@ -4,7 +4,7 @@ use super::leg::choice;
 use super::{Leg, RECORD_BYTES};
 
 /// Where in a fill its action stands; in a leg the byte is filler.
-pub const ACTION_AT: usize = 24;
+pub const ACTION_AT: usize = 26;
 
 /// What a fill does with the lot of its side.
 #[derive(Clone, Copy, Debug, PartialEq, Eq, Hash)]

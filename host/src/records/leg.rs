@@ -40,6 +40,17 @@ pub enum Market {
     Otc = 2,
 }
 
+/// What an exercise brings, as far as the record says it.
+#[derive(Clone, Copy, Debug, PartialEq, Eq, Hash)]
+pub enum Settlement {
+    /// The record does not say.
+    NotStated = 0,
+    /// The difference, in money.
+    Cash = 1,
+    /// The underlying itself.
+    Physical = 2,
+}
+
 /// One record of holdings or placement.
 ///
 /// The number fields hold what the record's bytes can hold. A value outside
@@ -66,6 +77,8 @@ pub struct Leg {
     pub expiry: u32,
     /// 1 to 100,000.
     pub contracts: u32,
+    /// Cash or physical, or not stated.
+    pub settlement: Settlement,
 }
 
 /// Type, strike, expiry and unit size.
@@ -88,6 +101,8 @@ pub struct Line {
     pub strike: u32,
     /// YYYYMMDD as a number.
     pub expiry: u32,
+    /// Cash or physical, or not stated, which is a line of its own.
+    pub settlement: Settlement,
 }
 
 impl Leg {
@@ -106,6 +121,7 @@ impl Leg {
             underlying: self.underlying,
             strike: self.strike,
             expiry: self.expiry,
+            settlement: self.settlement,
         }
     }
 
@@ -127,6 +143,7 @@ impl Leg {
         record[12..16].copy_from_slice(&self.strike.to_le_bytes());
         record[16..20].copy_from_slice(&self.expiry.to_le_bytes());
         record[20..24].copy_from_slice(&self.contracts.to_le_bytes());
+        record[24] = self.settlement as u8;
         record
     }
 
@@ -143,6 +160,10 @@ impl Leg {
             strike: u32_at(record, 12),
             expiry: u32_at(record, 16),
             contracts: u32_at(record, 20),
+            settlement: match record[24] {
+                0 => Settlement::NotStated,
+                settlement => choice(settlement, Settlement::Cash, Settlement::Physical)?,
+            },
         };
         let in_range = usize::from(leg.group) <= MOST_CLAIMS
             && (1..=GREATEST_UNIT_SIZE).contains(&leg.unit_size)
@@ -150,7 +171,7 @@ impl Leg {
             && (1..=GREATEST_STRIKE).contains(&leg.strike)
             && is_expiry(leg.expiry)
             && (1..=MOST_CONTRACTS).contains(&leg.contracts)
-            && record[24..].iter().all(|&byte| byte == 0);
+            && record[25..].iter().all(|&byte| byte == 0);
         in_range.then_some(leg)
     }
 }
@@ -181,8 +202,12 @@ mod tests {
             strike: 99_999_999,
             expiry: 20991231,
             contracts: 100_000,
+            settlement: Settlement::Physical,
         };
-        assert_eq!(Leg::from_bytes(&leg.to_bytes()), Some(leg));
+        for settlement in [Settlement::NotStated, Settlement::Cash, Settlement::Physical] {
+            let leg = Leg { settlement, ..leg };
+            assert_eq!(Leg::from_bytes(&leg.to_bytes()), Some(leg));
+        }
         for too_much in [Leg { group: 33, ..leg }, Leg { unit_size: 1_001, ..leg }, Leg { strike: 0, ..leg }]
         {
             assert_eq!(Leg::from_bytes(&too_much.to_bytes()), None);

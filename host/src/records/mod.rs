@@ -8,7 +8,7 @@ mod leg;
 pub use claim::Claim;
 pub use date::is_expiry;
 pub use fill::{Action, Fill, ACTION_AT};
-pub use leg::{Leg, Line, Market, OptionType, Series, Side, Style};
+pub use leg::{Leg, Line, Market, OptionType, Series, Settlement, Side, Style};
 
 /// Bytes of a leg record and of a claim record.
 pub const RECORD_BYTES: usize = 32;

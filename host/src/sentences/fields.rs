@@ -80,7 +80,10 @@ fn legs(group: Range) -> Vec<Range> {
         range("count of contracts", CONTRACTS, format!("1 to {MOST_CONTRACTS}"), |contracts| {
             (1..=u64::from(MOST_CONTRACTS)).contains(&contracts)
         }),
-        range("filler (bytes 24 to 31)", FILLER, "0", |filler| filler == 0),
+        range("settlement", SETTLEMENT, "0 (not stated), 1 (cash) or 2 (physical)", |settlement| {
+            settlement <= 2
+        }),
+        range("filler (bytes 25 to 31)", FILLER, "0", |filler| filler == 0),
     ]
 }
 
@@ -95,6 +98,6 @@ fn claims() -> Vec<Range> {
             margin <= GREATEST_AMOUNT as u64
         }),
         range("filler (bytes 16 to 23)", (16, 8), "0", zero),
-        range("filler (bytes 24 to 31)", FILLER, "0", zero),
+        range("filler (bytes 24 to 31)", (24, 8), "0", zero),
     ]
 }

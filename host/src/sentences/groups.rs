@@ -1,8 +1,8 @@
-//! Refusals 6 to 13: why a group is no spread.
+//! Refusals 6 to 13 and 21: why a group is no spread, or not fit for a cash account.
 
 use crate::numbers::{grouped, ordinal};
 use crate::reason::Reason;
-use crate::records::{Leg, OptionType, Side, MOST_CLAIMS};
+use crate::records::{Leg, OptionType, Settlement, Side, Style, MOST_CLAIMS};
 use crate::text::{date_text, market_name, placed_text, series_text, style_name};
 
 /// A leg of the group and its place in the placement.
@@ -25,6 +25,7 @@ pub fn sentence(placement: &[Leg], group: u64, reason: Reason) -> Option<String>
         Reason::CallUnitsUnequal => unequal(&legs, OptionType::Call, "call"),
         Reason::PutUnitsUnequal => unequal(&legs, OptionType::Put, "put"),
         Reason::ShortOutlivesLong => outlived(&legs)?,
+        Reason::NotFitForCash => unfit(&legs)?,
         _ => return None,
     };
     Some(format!("group {group} {wrong}"))
@@ -48,6 +49,24 @@ fn mixed(legs: &[Placed], what: &str, term: impl Fn(&Leg) -> String) -> Option<S
         term(other.1),
         named(other, ""),
     ))
+}
+
+/// The first leg that keeps the group from a cash account.
+fn unfit(legs: &[Placed]) -> Option<String> {
+    let first = legs.first()?;
+    let why = |leg: &Leg| {
+        if leg.style != Style::European {
+            Some(String::from("is american and must be european"))
+        } else if leg.settlement != Settlement::Cash {
+            Some(String::from("must be stated as `cash`"))
+        } else if leg.expiry != first.1.expiry {
+            Some(format!("must expire on {}, as the first of the group", date_text(first.1.expiry)))
+        } else {
+            None
+        }
+    };
+    let (leg, why) = legs.iter().find_map(|placed| why(placed.1).map(|why| (placed, why)))?;
+    Some(format!("is not fit for a cash account: {} {why}", named(leg, RECORD)))
 }
 
 fn on(side: Side) -> impl Fn(&&Placed) -> bool {

@@ -63,6 +63,9 @@ fn of_group(group: u64, reason: Reason) -> String {
         Reason::PutUnitsUnequal => "has unequal long and short put units",
         Reason::ShortOutlivesLong => "has a short that expires after a long",
         Reason::ClaimNotMargin => "claims what is not its margin",
+        Reason::NotFitForCash => {
+            "is not fit for a cash account: all its legs must be European, stated as cash, and of one expiry"
+        }
         _ => "is refused",
     };
     format!("group {group} {wrong}")

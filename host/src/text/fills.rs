@@ -117,7 +117,7 @@ mod tests {
         assert_eq!(
             error_of(&format!("fills\n{LEG}\nopen {LEG} now\nfills")),
             "line 2, column 1: expected `open` or `close`, found `long`\n\
-             line 3, column 70: expected the end of the line, found `now`\n\
+             line 3, column 70: expected `cash` or `physical`, or the end of the line, found `now`\n\
              line 4, column 1: expected `open` or `close`, found `fills`"
         );
     }

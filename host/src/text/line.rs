@@ -1,9 +1,10 @@
 //! One record as its words, for sentences: what [`super::show`] prints, without the padding.
 
-use super::names::{name_of, ACTIONS, MARKETS, SIDES, STYLES, TYPES};
+use super::names::{name_of, ACTIONS, MARKETS, SETTLEMENTS, SIDES, STYLES, TYPES};
 use super::show::leg_words;
 use crate::fields::{
-    get, Field, CONTRACTS, EXPIRY, GROUP, MARKET, SIDE, STRIKE, STYLE, TYPE, UNDERLYING, UNIT_SIZE,
+    get, Field, CONTRACTS, EXPIRY, GROUP, MARKET, SETTLEMENT, SIDE, STRIKE, STYLE, TYPE, UNDERLYING,
+    UNIT_SIZE,
 };
 use crate::records::{Fill, Leg, Market, Style, RECORD_BYTES};
 
@@ -67,8 +68,12 @@ pub fn raw_text(record: &[u8; RECORD_BYTES]) -> String {
         0 => String::new(),
         group => format!("group {group} "),
     };
+    let settlement = match number(SETTLEMENT) {
+        0 => String::new(),
+        _ => format!(" {}", term("settlement", SETTLEMENT, SETTLEMENTS.map(|(name, _)| name))),
+    };
     format!(
-        "{place}{} {} {} {} {} unit {} underlying {} {} {}",
+        "{place}{} {} {} {} {} unit {} underlying {} {} {}{settlement}",
         term("side", SIDE, SIDES.map(|(name, _)| name)),
         number(CONTRACTS),
         term("type", TYPE, TYPES.map(|(name, _)| name)),
@@ -85,6 +90,7 @@ pub fn raw_text(record: &[u8; RECORD_BYTES]) -> String {
 mod tests {
     use super::*;
     use crate::accounts::{in_group, leg};
+    use crate::records::Settlement;
 
     #[test]
     fn a_record_in_range_has_one_text() {
@@ -93,6 +99,9 @@ mod tests {
         assert_eq!(placed_text(&leg), format!("group 1 {}", leg_text(&leg)));
         assert_eq!(placed_text(&in_group(0, leg)), format!("unplaced {}", leg_text(&leg)));
         assert_eq!(raw_text(&leg.to_bytes()), placed_text(&leg));
+        let cash = Leg { settlement: Settlement::Cash, ..leg };
+        assert_eq!(leg_text(&cash), format!("{} cash", leg_text(&leg)));
+        assert_eq!(raw_text(&cash.to_bytes()), placed_text(&cash));
         assert_eq!(series_text(&leg), "put 50.000 2011-05-21 unit 100");
     }
 
@@ -101,7 +110,7 @@ mod tests {
         assert_eq!(
             raw_text(&[0xFF; RECORD_BYTES]),
             "group 65535 side 255 4294967295 type 255 4294967.295 429496-72-95 unit 65535 \
-             underlying 4294967295 style 255 market 255"
+             underlying 4294967295 style 255 market 255 settlement 255"
         );
     }
 }

@@ -1,6 +1,6 @@
 //! The words for the terms of a leg, for both ways.
 
-use crate::records::{Action, Market, OptionType, Side, Style};
+use crate::records::{Action, Market, OptionType, Settlement, Side, Style};
 
 /// The words for a term with two values.
 pub type Names<T> = [(&'static str, T); 2];
@@ -10,6 +10,9 @@ pub const TYPES: Names<OptionType> = [("call", OptionType::Call), ("put", Option
 pub const STYLES: Names<Style> = [("american", Style::American), ("european", Style::European)];
 pub const ACTIONS: Names<Action> = [("open", Action::Open), ("close", Action::Close)];
 pub const MARKETS: Names<Market> = [("listed", Market::Listed), ("otc", Market::Otc)];
+
+/// Settlement that is not stated has no word.
+pub const SETTLEMENTS: Names<Settlement> = [("cash", Settlement::Cash), ("physical", Settlement::Physical)];
 
 /// The word for one of the two values.
 pub fn name_of<T: PartialEq>(value: T, names: Names<T>) -> &'static str {

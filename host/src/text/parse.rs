@@ -140,6 +140,7 @@ fn add<T>(
 #[cfg(test)]
 mod tests {
     use super::*;
+    use crate::records::Settlement;
 
     fn error_of(text: &str) -> String {
         parse(text).unwrap_err().to_string()
@@ -164,7 +165,7 @@ mod tests {
         );
         assert_eq!(
             error_of(&format!("holdings\n{LEG} again")),
-            "line 2, column 65: expected the end of the line, found `again`"
+            "line 2, column 65: expected `cash` or `physical`, or the end of the line, found `again`"
         );
         assert_eq!(
             error_of("claims\nclaim 1 1000.00"),
@@ -200,6 +201,18 @@ mod tests {
         assert_eq!(sheet.placement.len(), 1);
         assert_eq!(sheet.placement[0].group, 0);
         assert_eq!(parse(""), Ok(Sheet::default()));
+    }
+
+    #[test]
+    fn settlement_may_be_stated() {
+        let text = format!("holdings\n{LEG} cash\n{LEG} physical\n{LEG}");
+        let stated: Vec<Settlement> =
+            parse(&text).unwrap().holdings.into_iter().map(|leg| leg.settlement).collect();
+        assert_eq!(stated, [Settlement::Cash, Settlement::Physical, Settlement::NotStated]);
+        assert_eq!(
+            error_of(&format!("holdings\n{LEG} cash cash")),
+            "line 2, column 70: expected the end of the line, found `cash`"
+        );
     }
 
     #[test]

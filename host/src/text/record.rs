@@ -1,11 +1,11 @@
 //! The words of one record: a leg or a claim.
 
 use super::errors::TextError;
-use super::names::{ACTIONS, MARKETS, SIDES, STYLES, TYPES};
+use super::names::{ACTIONS, MARKETS, SETTLEMENTS, SIDES, STYLES, TYPES};
 use super::words::{digits, Words};
 use crate::records::{
-    is_expiry, Claim, Fill, Leg, GREATEST_AMOUNT, GREATEST_STRIKE, GREATEST_UNIT_SIZE, MOST_CLAIMS,
-    MOST_CONTRACTS,
+    is_expiry, Claim, Fill, Leg, Settlement, GREATEST_AMOUNT, GREATEST_STRIKE, GREATEST_UNIT_SIZE,
+    MOST_CLAIMS, MOST_CONTRACTS,
 };
 
 pub fn holding(words: &mut Words) -> Result<Leg, TextError> {
@@ -48,7 +48,20 @@ fn leg(group: u16, or_else: &str, words: &mut Words) -> Result<Leg, TextError> {
     let underlying = words.number("an underlying", 1..=u32::MAX)?;
     let style = words.choose(STYLES, "")?;
     let market = words.choose(MARKETS, "")?;
-    Ok(Leg { group, side, option_type, style, market, unit_size, underlying, strike, expiry, contracts })
+    let settlement = words.optional(SETTLEMENTS).unwrap_or(Settlement::NotStated);
+    Ok(Leg {
+        group,
+        side,
+        option_type,
+        style,
+        market,
+        unit_size,
+        underlying,
+        strike,
+        expiry,
+        contracts,
+        settlement,
+    })
 }
 
 /// Dollars with up to three decimals, as mills.

@@ -3,8 +3,8 @@
 use std::fmt::Write;
 
 use super::line::{date_text, place_text, strike_text};
-use super::names::{name_of, MARKETS, SIDES, STYLES, TYPES};
-use crate::records::Leg;
+use super::names::{name_of, MARKETS, SETTLEMENTS, SIDES, STYLES, TYPES};
+use crate::records::{Leg, Settlement};
 use crate::sheet::Sheet;
 
 /// The sheet as text, in the format [`super::FORMAT`] tells of.
@@ -47,8 +47,12 @@ fn line(text: &mut String, words: String) {
 
 /// The words of a leg, padded so that those of one table stand in columns.
 pub fn leg_words(leg: &Leg) -> String {
+    let settlement = match leg.settlement {
+        Settlement::NotStated => String::new(),
+        settlement => format!(" {}", name_of(settlement, SETTLEMENTS)),
+    };
     format!(
-        "{:<5} {} {:<4} {} {} unit {} underlying {} {} {}",
+        "{:<5} {} {:<4} {} {} unit {} underlying {} {} {}{settlement}",
         name_of(leg.side, SIDES),
         leg.contracts,
         name_of(leg.option_type, TYPES),

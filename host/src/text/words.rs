@@ -13,6 +13,8 @@ pub struct Words<'a> {
     end: usize,
     words: Vec<(usize, &'a str)>,
     at: usize,
+    /// What might have stood where the line should end.
+    might_be: String,
 }
 
 impl<'a> Words<'a> {
@@ -28,7 +30,7 @@ impl<'a> Words<'a> {
             column += piece.chars().count();
         }
         let end = words.last().map_or(1, |(column, word)| column + word.chars().count());
-        Words { line, end, words, at: 0 }
+        Words { line, end, words, at: 0, might_be: String::new() }
     }
 
     pub fn peek(&self) -> Option<&'a str> {
@@ -72,6 +74,17 @@ impl<'a> Words<'a> {
         self.value(&expected, |word| names.iter().find(|(name, _)| *name == word).map(|(_, value)| *value))
     }
 
+    /// One of two words, or none of them.
+    pub fn optional<T: Copy>(&mut self, names: Names<T>) -> Option<T> {
+        let word = self.peek();
+        let found = names.iter().find(|(name, _)| word == Some(name));
+        match found {
+            Some(_) => self.skip(),
+            None => self.might_be += &format!("`{}` or `{}`, or ", names[0].0, names[1].0),
+        }
+        found.map(|(_, value)| *value)
+    }
+
     /// Just this word.
     pub fn word(&mut self, name: &str) -> Result<(), TextError> {
         self.value(&format!("`{name}`"), |word| (word == name).then_some(()))
@@ -79,7 +92,7 @@ impl<'a> Words<'a> {
 
     pub fn end(&self) -> Result<(), TextError> {
         match self.peek() {
-            Some(_) => Err(self.error("the end of the line")),
+            Some(_) => Err(self.error(&format!("{}the end of the line", self.might_be))),
             None => Ok(()),
         }
     }

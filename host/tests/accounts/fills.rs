@@ -2,7 +2,7 @@
 
 use usm::accounts::{in_group, leg, times};
 use usm::both::{Calls, BOTH};
-use usm::fields::{put, ACTION, CONTRACTS, FILLER, GROUP, SIDE};
+use usm::fields::{put, ACTION, CONTRACTS, GROUP, SETTLEMENT, SIDE};
 use usm::Action::{Close, Open};
 use usm::{fill_table, leg_table, Action, Fill, Leg, Refusal, Side, RECORD_BYTES};
 
@@ -98,6 +98,7 @@ fn a_close_of_more_than_is_held_is_18_and_changes_nothing() {
         Leg { expiry: 20110618, ..leg("L60c") },
         Leg { style: usm::Style::European, ..leg("L60c") },
         Leg { market: usm::Market::Otc, ..leg("L60c") },
+        Leg { settlement: usm::Settlement::Cash, ..leg("L60c") },
     ] {
         assert_day(&start, &[fill(Close, other)], &start, &[(0, 18)]);
     }
@@ -188,8 +189,10 @@ fn a_bad_field_of_a_fill_is_4_for_that_fill() {
         (CONTRACTS, 100_001),
         (ACTION, 0),
         (ACTION, 3),
-        (FILLER, 0x0101), // byte 25 beside an action
-        (FILLER, 1 | 1 << 63),
+        (SETTLEMENT, 3),
+        ((25, 1), 1),
+        ((27, 1), 1),
+        ((31, 1), 255),
     ] {
         let mut fills = table.clone();
         put(&mut fills, 3, field, value);

@@ -1,7 +1,7 @@
 //! "Errors that look right": each test fails for a program that makes the error.
 
 use usm::accounts::{in_group, leg, placed, times};
-use usm::{Accepted, Leg, Market, Sheet, Style};
+use usm::{Accepted, Leg, Market, Settlement, Sheet, Style};
 
 use crate::{assert_margin, assert_verdict, refusal};
 
@@ -51,6 +51,7 @@ fn holdings_are_matched_by_line_not_by_series() {
         |held: &mut Leg| held.market = Market::Otc,
         |held: &mut Leg| held.unit_size = 10,
         |held: &mut Leg| held.underlying = 8,
+        |held: &mut Leg| held.settlement = Settlement::Cash,
     ] {
         let mut sheet = accepted.clone();
         change(&mut sheet.holdings[1]);

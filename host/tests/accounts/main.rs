@@ -5,6 +5,7 @@
 
 mod bench;
 mod boxes;
+mod cash;
 mod files;
 mod fills;
 mod forms;

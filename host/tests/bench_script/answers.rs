@@ -35,6 +35,10 @@ pub fn margin(calls: &Calls, placement: &[u8], g: u64) -> String {
     told((calls.margin)(placement, g), |mills| mills.to_string())
 }
 
+pub fn cash(calls: &Calls, placement: &[u8], g: u64) -> String {
+    told((calls.cash)(placement, g), |mills| mills.to_string())
+}
+
 pub fn margins(calls: &Calls, placement: &[u8], n: u64, room: usize) -> String {
     let mut out: Lent<i64> = Lent::of_length(room);
     let answer = (calls.margins)(placement, n, out.slice());

@@ -9,6 +9,8 @@ const LEG: [Field; 10] = [GROUP, SIDE, TYPE, STYLE, MARKET, UNIT_SIZE, UNDERLYIN
 const FILL: [Field; 11] =
     [GROUP, SIDE, TYPE, STYLE, MARKET, UNIT_SIZE, UNDERLYING, STRIKE, EXPIRY, CONTRACTS, ACTION];
 const CLAIM: [Field; 2] = [GROUP, CLAIM_MARGIN];
+/// The fields of a leg or a fill whose numbers may follow.
+const MAY_FOLLOW: [Field; 1] = [SETTLEMENT];
 
 #[derive(Default)]
 pub struct Memory {
@@ -68,16 +70,18 @@ impl Memory {
 
     /// Appends a record of these numbers.
     pub fn append(&mut self, letter: &str, numbers: &[u64]) -> Result<(), String> {
-        let fields = match letter {
-            "c" => &CLAIM[..],
-            "d" => &FILL[..],
-            _ => &LEG[..],
+        let (fields, may_follow) = match letter {
+            "c" => (&CLAIM[..], &[][..]),
+            "d" => (&FILL[..], &MAY_FOLLOW[..]),
+            _ => (&LEG[..], &MAY_FOLLOW[..]),
         };
-        if numbers.len() != fields.len() {
-            return Err(format!("a record of {} numbers, not of {}", fields.len(), numbers.len()));
+        let (least, most) = (fields.len(), fields.len() + may_follow.len());
+        if !(least..=most).contains(&numbers.len()) {
+            let range = if least == most { least.to_string() } else { format!("{least} to {most}") };
+            return Err(format!("a record of {range} numbers, not of {}", numbers.len()));
         }
         let mut record = [0; RECORD_BYTES];
-        for (&field, &number) in fields.iter().zip(numbers) {
+        for (&field, &number) in fields.iter().chain(may_follow).zip(numbers) {
             put(&mut record, 0, field, number);
             if get(&record, 0, field) != number {
                 return Err(format!("{number} does not fit in {} bytes", field.1));

@@ -3,7 +3,7 @@
 use std::collections::{BTreeMap, BTreeSet};
 
 use usm::ffi::{Answer, LINE_BYTES, TABLE_BYTES};
-use usm::{block, fields, Action, Form, Market, OptionType, Reason, Side, Style, Table};
+use usm::{block, fields, Action, Form, Market, OptionType, Reason, Settlement, Side, Style, Table};
 
 const HEADER: &str = include_str!("../../include/usm.h");
 
@@ -53,6 +53,7 @@ fn fields_stand_where_rust_has_them() {
         ("USM_LEG_STRIKE", fields::STRIKE),
         ("USM_LEG_EXPIRY", fields::EXPIRY),
         ("USM_LEG_CONTRACTS", fields::CONTRACTS),
+        ("USM_LEG_SETTLEMENT", fields::SETTLEMENT),
         ("USM_LEG_FILLER", fields::FILLER),
         ("USM_FILL_ACTION", fields::ACTION),
         ("USM_CLAIM_GROUP", fields::GROUP),
@@ -76,6 +77,9 @@ fn terms_tables_and_sizes_have_rusts_numbers() {
         ("USM_HOLDINGS", Table::Holdings as usize),
         ("USM_PLACEMENT", Table::Placement as usize),
         ("USM_CLAIMS", Table::Claims as usize),
+        ("USM_NOT_STATED", Settlement::NotStated as usize),
+        ("USM_CASH", Settlement::Cash as usize),
+        ("USM_PHYSICAL", Settlement::Physical as usize),
         ("USM_FILLS", usm::FILLS_TABLE as usize),
         ("USM_OPEN", Action::Open as usize),
         ("USM_CLOSE", Action::Close as usize),
@@ -130,7 +134,7 @@ fn calls_named_in(source: &str) -> BTreeSet<&str> {
 #[test]
 fn the_header_and_the_rust_declarations_name_the_same_calls() {
     let header = calls_named_in(HEADER);
-    assert_eq!(header.len(), 13, "{header:?}");
+    assert_eq!(header.len(), 14, "{header:?}");
     assert_eq!(header, calls_named_in(include_str!("../../src/ffi.rs")));
 }
 

@@ -9,6 +9,8 @@ table 2: 4 records in range
 group 1 margin 1000000
 group 2 margin 500000
 group 2 by itself: margin 500000
+usm_cash: refusal 21, table 2, place 1
+cash required 1000000
 strike 50000 net -1000000
 strike 60000 net 0
 usm_check_sheet: accepted, groups 2, total 1500000 mills
@@ -52,7 +54,7 @@ fn the_c_example_prints_what_it_says() {
 
 #[test]
 fn empty_slices_may_be_null() {
-    let printed = "144 calls with empty slices, 0 wrong\n";
+    let printed = "148 calls with empty slices, 0 wrong\n";
     assert_prints(&run(&c_compiler(), C, "empty.c"), printed);
     if let Some(compiler) = cxx_compiler() {
         assert_prints(&run(&compiler, CXX, "empty.c"), printed);

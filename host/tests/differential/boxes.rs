@@ -35,7 +35,7 @@ fn claimed(random: &mut Random, placement: &[Leg], group: u16) -> i64 {
 }
 
 /// A European long box, half of the time with something about it that may make it none.
-fn near(random: &mut Random) -> Vec<Leg> {
+pub fn near(random: &mut Random) -> Vec<Leg> {
     let [low, high] = strikes(random);
     let base = Leg { style: Style::European, ..spreads::terms(random) };
     let units = units(random);

@@ -66,6 +66,12 @@ pub fn margin(case: &dyn Display, placement: &[u8], g: u64) -> u64 {
     same(case, &format!("usm_margin {g}"), answer, numbers(&expected, |margin| [margin as u64, 0, 0]))
 }
 
+pub fn cash(case: &dyn Display, placement: &[u8], g: u64) -> u64 {
+    let answer = answer_of(|answer| ffi::cash(placement, g, answer));
+    let expected = model::cash(placement, g);
+    same(case, &format!("usm_cash {g}"), answer, numbers(&expected, |cash| [cash as u64, 0, 0]))
+}
+
 pub fn margins(case: &dyn Display, placement: &[u8], n: u64, room: usize) -> u64 {
     let call = format!("usm_margins {n}, room {room}");
     let mut out = Lent::of_length(room);

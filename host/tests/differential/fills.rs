@@ -64,13 +64,14 @@ fn line(random: &mut Random) -> Leg {
         leg
     } else {
         let plain = in_group(0, usm::accounts::leg("L60c"));
-        match random.below(7) {
+        match random.below(8) {
             0 => Leg { style: leg.style, ..plain },
             1 => Leg { market: leg.market, ..plain },
             2 => Leg { unit_size: leg.unit_size, ..plain },
             3 => Leg { underlying: leg.underlying, ..plain },
             4 => Leg { strike: leg.strike, ..plain },
             5 => Leg { expiry: leg.expiry, ..plain },
+            6 => Leg { settlement: leg.settlement, ..plain },
             _ => Leg { option_type: leg.option_type, ..plain },
         }
     }

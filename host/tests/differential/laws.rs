@@ -91,12 +91,23 @@ pub fn a_day_of_no_fills_changes_nothing(case: &dyn Display, day: &Day) {
     if let Ok(counts) = play_fills(&day.holdings, &day.fills, &mut result, &mut indices, &mut numbers) {
         result.truncate(counts.records * RECORD_BYTES);
         assert_eq!(check_table(Table::Holdings, &result), Ok(counts.records), "{case}");
-        let lots: BTreeSet<&[u8]> = result.chunks_exact(RECORD_BYTES).map(|record| &record[..20]).collect();
+        // Side and line are all but contracts: bytes 0 to 19, and the settlement.
+        let lots: BTreeSet<(&[u8], u8)> =
+            result.chunks_exact(RECORD_BYTES).map(|record| (&record[..20], record[24])).collect();
         assert_eq!(lots.len(), counts.records, "{case}: a line and side stands in one record");
         let mut again = vec![0; 8192];
         let no_fills = play_fills(&result, &[], &mut again, &mut [], &mut []);
         assert_eq!(no_fills, Ok(PlayCounts { records: counts.records, refused: 0 }), "{case}");
         assert!(again[..result.len()] == result, "{case}: no fills change the holdings");
+    }
+}
+
+/// The cash that a group requires covers it at each of its strikes, and nothing less does.
+pub fn cash_is_the_worst_loss(case: &dyn Display, sheet: &Sheet, group: u64) {
+    if let Ok(cash) = sheet.cash(group) {
+        let worksheet = sheet.worksheet(group).expect("a spread");
+        let worst = worksheet.iter().map(|(_, net)| -net).max().unwrap_or(0);
+        assert_eq!(cash, worst.max(0), "{case}: group {group}, {worksheet:?}");
     }
 }
 

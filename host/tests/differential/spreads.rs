@@ -1,8 +1,8 @@
 //! Spreads of all sizes and shapes, and what the legs of one share.
 
 use usm::{
-    is_expiry, Leg, Market, OptionType, Side, Style, GREATEST_STRIKE, GREATEST_UNIT_SIZE, MOST_CONTRACTS,
-    MOST_LEGS,
+    is_expiry, Leg, Market, OptionType, Settlement, Side, Style, GREATEST_STRIKE, GREATEST_UNIT_SIZE,
+    MOST_CONTRACTS, MOST_LEGS,
 };
 
 use crate::random::Random;
@@ -37,6 +37,10 @@ pub fn any(random: &mut Random) -> Vec<Leg> {
             legs[1].strike = legs[0].strike;
         }
     }
+    if random.one_in(6) {
+        // A group may mix settlements.
+        legs.iter_mut().for_each(|leg| leg.settlement = settlement(random));
+    }
     legs
 }
 
@@ -58,7 +62,12 @@ pub fn terms(random: &mut Random) -> Leg {
             2 => random.between(1, MOST_CONTRACTS / 2),
             _ => MOST_CONTRACTS / 2,
         },
+        settlement: settlement(random),
     }
+}
+
+fn settlement(random: &mut Random) -> Settlement {
+    random.pick(&[Settlement::NotStated, Settlement::NotStated, Settlement::Cash, Settlement::Physical])
 }
 
 /// Four strikes, ascending and distinct.

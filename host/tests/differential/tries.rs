@@ -21,6 +21,7 @@ pub fn try_tables(case: &Case, random: &mut Random, tables: &Tables, tally: &mut
     let strange = [0, 33, 256, 1 << 32, u64::MAX];
     let g = if random.one_in(6) { random.pick(&strange) } else { 1 + random.below(claims.max(1)) as u64 };
     tally.count(compare::margin(case, &tables.placement, g));
+    tally.count(compare::cash(case, &tables.placement, g));
     let n = if random.one_in(6) { random.pick(&strange) } else { claims as u64 };
     tally.count(compare::margins(case, &tables.placement, n, random.room(claims)));
     let strikes = strikes_of(&tables.placement, g);

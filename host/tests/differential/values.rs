@@ -3,7 +3,7 @@
 use usm::fields::*;
 
 /// Values past the ranges of a leg's fields, just past or far; group 1 is so in holdings.
-pub const BAD_IN_LEGS: [(Field, u64); 28] = [
+pub const BAD_IN_LEGS: [(Field, u64); 30] = [
     (GROUP, 33),
     (GROUP, 0x0100),
     (GROUP, 1),
@@ -30,8 +30,10 @@ pub const BAD_IN_LEGS: [(Field, u64); 28] = [
     (EXPIRY, 0),
     (CONTRACTS, 0),
     (CONTRACTS, 100_001),
+    (SETTLEMENT, 3),
+    (SETTLEMENT, 255),
     (FILLER, 1),
-    (FILLER, 1 << 63),
+    (FILLER, 1 << 48),
 ];
 
 /// Values past the ranges of a claim's fields.
@@ -49,7 +51,7 @@ pub const BAD_IN_CLAIMS: [(Field, u64); 10] = [
 ];
 
 /// Values at the ends of the ranges of a leg's fields, which are good.
-pub const AT_THE_LIMIT: [(Field, u64); 7] = [
+pub const AT_THE_LIMIT: [(Field, u64); 8] = [
     (CONTRACTS, 100_000),
     (UNIT_SIZE, 1_000),
     (STRIKE, 99_999_999),
@@ -57,4 +59,5 @@ pub const AT_THE_LIMIT: [(Field, u64); 7] = [
     (EXPIRY, 20991231),
     (EXPIRY, 20120229),
     (UNDERLYING, 0xFFFF_FFFF),
+    (SETTLEMENT, 2),
 ];

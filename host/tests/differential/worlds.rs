@@ -1,7 +1,9 @@
 //! Tables made of chance: bytes without sense, and worlds too small to be sensible.
 
 use usm::accounts::in_group;
-use usm::{leg_table, model, Claim, Leg, Market, OptionType, Sheet, Side, Style, Tables, RECORD_BYTES};
+use usm::{
+    leg_table, model, Claim, Leg, Market, OptionType, Settlement, Sheet, Side, Style, Tables, RECORD_BYTES,
+};
 
 use crate::random::Random;
 
@@ -35,6 +37,7 @@ pub fn tiny_world(random: &mut Random) -> Tables {
         strike: random.pick(&[50, 60, 70]),
         expiry: if random.one_in(6) { 20110618 } else { 20110521 },
         contracts: random.between(1, 2),
+        settlement: if random.one_in(8) { Settlement::Cash } else { Settlement::NotStated },
     };
     let mut placement: Vec<Leg> = (0..random.below(9)).map(|_| leg(random)).collect();
     if random.one_in(2) {

@@ -13,6 +13,7 @@ use crate::fills::Day;
 struct Answers {
     check_table: Result<usize, Refusal>,
     margin: Result<i64, Refusal>,
+    cash: Result<i64, Refusal>,
     margins: (Result<usize, Refusal>, [i64; MOST_CLAIMS]),
     worksheet: (Result<usize, Refusal>, [u32; 8], [i64; 8]),
     check_sheet: Result<Accepted, Refusal>,
@@ -35,6 +36,7 @@ fn answers(calls: Calls, tables: &Tables, file: &[u8], g: u64) -> Answers {
     Answers {
         check_table: (calls.check_table)(Table::Placement, placement),
         margin: (calls.margin)(placement, g),
+        cash: (calls.cash)(placement, g),
         margins: ((calls.margins)(placement, g, &mut margins), margins),
         worksheet: ((calls.worksheet)(placement, g, &mut strikes, &mut nets), strikes, nets),
         check_sheet: (calls.check_sheet)(holdings, placement, claims),

@@ -35,7 +35,9 @@ pub fn legs() -> Vec<Case> {
         with("strike", HOLDINGS, 0, &[(STRIKE, 100_000_000)]),
         with("expiry", HOLDINGS, 0, &[(EXPIRY, 20110229)]),
         with("contracts", HOLDINGS, 0, &[(CONTRACTS, 100_001)]),
-        with("filler", HOLDINGS, 0, &[(FILLER, 1 << 56)]),
+        with("settlement", HOLDINGS, 0, &[(SETTLEMENT, 3)]),
+        with("filler", HOLDINGS, 0, &[(FILLER, 1 << 48)]),
+        with("filler beside a settlement", HOLDINGS, 0, &[(SETTLEMENT, 2), (FILLER, 1)]),
         with("two fields of a placed leg", PLACEMENT, 2, &[(SIDE, 9), (STRIKE, 0)]),
     ]
 }

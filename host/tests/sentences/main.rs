@@ -24,7 +24,7 @@ fn entry(name: &str, refusal: &Refusal, sentence: &str) -> String {
 
 /// The sentences of refusals by themselves, at places that count from 0 and groups that count from 1.
 fn short() -> String {
-    let tables: [&[u64]; 20] = [
+    let tables: [&[u64]; 21] = [
         &[0],
         &[0],
         &[0],
@@ -45,8 +45,9 @@ fn short() -> String {
         &[4],
         &[1, 4],
         &[0],
+        &[2],
     ];
-    let refusals = (1..=20).zip(tables).flat_map(|(number, tables)| {
+    let refusals = (1..=21).zip(tables).flat_map(|(number, tables)| {
         tables.iter().map(move |table| Refusal::new(number, *table, if number == 1 { 0 } else { 2 }))
     });
     refusals.map(|refusal| entry("by itself", &refusal, &refusal.to_string())).collect()
@@ -56,6 +57,15 @@ fn of_files(cases: &[Case]) -> String {
     let entries = cases.iter().map(|(name, file)| {
         let refusal = check_file(file).expect_err(name);
         entry(name, &refusal, &sentences::of_file(file, &refusal))
+    });
+    entries.collect()
+}
+
+/// Groups that are spreads and not fit for a cash account.
+fn of_cash() -> String {
+    let entries = sheets::unfit().into_iter().map(|(name, sheet)| {
+        let refusal = sheet.cash(1).expect_err(name);
+        entry(&format!("cash of {name}"), &refusal, &sentences::of_sheet(&sheet, &refusal))
     });
     entries.collect()
 }
@@ -76,7 +86,8 @@ fn cases() -> Vec<Case> {
 
 #[test]
 fn every_sentence_is_that_of_the_table() {
-    let found = format!("{}\n{}\n{}\n{}", short(), of_files(&cases()), of_groups(), fills::sentences());
+    let of_calls = [of_groups(), of_cash()].concat();
+    let found = format!("{}\n{}\n{}\n{}", short(), of_files(&cases()), of_calls, fills::sentences());
     let table = Path::new(env!("CARGO_MANIFEST_DIR")).join("tests/sentences/sentences.txt");
     if std::env::var_os("USM_WRITE_SENTENCES").is_some() {
         fs::write(&table, &found).expect("the table is written");
@@ -92,7 +103,8 @@ fn every_sentence_is_that_of_the_table() {
 fn every_reason_that_a_file_can_have_is_in_the_table() {
     let numbers: BTreeSet<u64> =
         cases().iter().map(|(name, file)| check_file(file).expect_err(name).number).collect();
-    let of_other_calls = [Reason::NoRoom, Reason::MoreClosedThanHeld, Reason::TooMuchHeld];
+    let of_other_calls =
+        [Reason::NoRoom, Reason::MoreClosedThanHeld, Reason::TooMuchHeld, Reason::NotFitForCash];
     let reasons = Reason::ALL.into_iter().filter(|reason| !of_other_calls.contains(reason));
     assert_eq!(numbers, reasons.map(Reason::number).collect());
 }
@@ -101,7 +113,7 @@ fn every_reason_that_a_file_can_have_is_in_the_table() {
 fn a_refusal_of_something_else_has_its_own_sentence() {
     // Nothing of what these name is in the file, or they are none of a file's refusals.
     let file = sheets::accepted().to_file().expect("a file");
-    for number in 0..=21 {
+    for number in 0..=22 {
         for table in 0..=5 {
             for place in [0, 1, 39, u64::MAX] {
                 let refusal = Refusal::new(number, table, place);

@@ -1,7 +1,7 @@
 //! Refusals 5 to 16: groups that are no spreads, and sheets that break a rule.
 
 use usm::accounts::{in_group, leg, placed, times};
-use usm::{Claim, Leg, Market, Sheet, Style};
+use usm::{Claim, Leg, Market, Settlement, Sheet, Style};
 
 use crate::Case;
 
@@ -19,6 +19,19 @@ pub fn no_spread() -> Sheet {
 /// P5's legs as European ones.
 fn european_box() -> [Leg; 4] {
     ["L50c", "S60c", "L60p", "S50p"].map(|notation| Leg { style: Style::European, ..leg(notation) })
+}
+
+/// Verticals that only one thing keeps from a cash account.
+pub fn unfit() -> Vec<(&'static str, Sheet)> {
+    let fit = |notation| Leg { style: Style::European, settlement: Settlement::Cash, ..leg(notation) };
+    let [long, short] = [fit("L60c"), fit("S50c")];
+    vec![
+        ("American options", placed(&[leg("L60c"), leg("S50c")], &[])),
+        ("no settlement", placed(&[long, Leg { settlement: Settlement::NotStated, ..short }], &[])),
+        ("two settlements", placed(&[long, Leg { settlement: Settlement::Physical, ..short }], &[])),
+        ("two expiries", placed(&[short, Leg { expiry: 20110618, ..long }], &[])),
+        ("no spread", placed(&[short], &[])),
+    ]
 }
 
 fn case(name: &str, sheet: Sheet) -> Case {
@@ -62,6 +75,8 @@ pub fn rules() -> Vec<Case> {
     held_less.placement.extend([in_group(0, times(3, "L90c"))]);
     let mut held_more = sheet.clone();
     held_more.holdings.extend([in_group(0, times(1_500, "L70c")), in_group(0, leg("L70c"))]);
+    let mut other_settlement = sheet.clone();
+    other_settlement.placement[1].settlement = Settlement::Cash;
     let mut unplaced = placed(&[leg("L60c"), leg("S50c"), in_group(0, leg("S50p"))], &[1_000_000]);
     unplaced.placement.rotate_right(1);
     let claims = vec![Claim { group: 1, margin: 1_000_000 }, Claim { group: 2, margin: 499_999 }];
@@ -71,6 +86,7 @@ pub fn rules() -> Vec<Case> {
         case("groups and no claims", no_claims),
         case("more held than placed", held_more),
         case("placed and not held", held_less),
+        case("held as another settlement", other_settlement),
         case("an unplaced short", unplaced),
         case("a claim a mill short", Sheet { claims, ..sheet }),
         case("a European long box that claims nothing", placed(&european_box(), &[0])),

@@ -1,7 +1,7 @@
 //! `margins` and `worksheet`.
 
 use usm::accounts::{in_group, leg, placed, times};
-use usm::{Leg, Style};
+use usm::{Leg, Settlement, Style};
 
 use crate::{folder, run, told};
 
@@ -60,6 +60,31 @@ $70.000    -$500.000              ------------|
     let (status, printed, sentence) = told(run(&folder, &["worksheet", "-", "one"], &file));
     let number = "sheet: expected the number of a group, found `one`\n";
     assert_eq!((status, printed.as_str(), sentence.as_str()), (2, "", number));
+}
+
+#[test]
+fn the_cash_of_each_group_is_told_or_why_there_is_none() {
+    let folder = folder("tool-cash");
+    let fit = |notation| Leg { style: Style::European, settlement: Settlement::Cash, ..leg(notation) };
+    let legs = [
+        fit("L60c"),
+        fit("S50c"),
+        in_group(2, leg("L60c")),
+        in_group(2, leg("S50c")),
+        in_group(3, leg("S50c")),
+    ];
+    let file = placed(&legs, &[]).to_file().expect("a file");
+    let printed = "\
+group  1  1000000 mills  $1,000.000
+group  2  not for cash, refusal 21: group 2 is not fit for a cash account: the 3rd record of the placement \
+(`group 2 long 1 call 60.000 2011-05-21 unit 100 underlying 7 american listed`) is american and must be european
+group  3  no spread, refusal 11: group 3 has 0 long call units and 100 short call units; they must be equal \
+(a leg's units are its contracts times its unit size)
+";
+    assert_eq!(told(run(&folder, &["cash", "-"], &file)), (1, printed.into(), String::new()));
+    let fit_only = placed(&[fit("L60c"), fit("S50c")], &[]).to_file().expect("a file");
+    let printed = "group  1  1000000 mills  $1,000.000\n";
+    assert_eq!(told(run(&folder, &["cash", "-"], &fit_only)), (0, printed.into(), String::new()));
 }
 
 #[test]

@@ -3,8 +3,8 @@
 use usm::block::{BLOCK_BYTES, LONGEST_FILE};
 use usm::both::{Calls, LIBRARY, MODEL};
 use usm::{
-    fill_table, leg_table, Accepted, Fill, Leg, Origin, Refusal, Sheet, Table, Tables, MOST_CLAIMS,
-    MOST_FILLS, MOST_LEGS,
+    fill_table, leg_table, Accepted, Fill, Leg, Origin, Refusal, Settlement, Sheet, Style, Table, Tables,
+    MOST_CLAIMS, MOST_FILLS, MOST_LEGS,
 };
 
 use crate::crafted;
@@ -61,6 +61,17 @@ fn margin(name: &'static str, legs: &[Leg]) -> Row {
     row(name, |calls| {
         let placement = leg_table(legs);
         move || folded((calls.margin)(&placement, 1), |margin| margin as u64)
+    })
+}
+
+fn cash(name: &'static str, legs: &[Leg]) -> Row {
+    row(name, |calls| {
+        let legs: Vec<Leg> = legs
+            .iter()
+            .map(|leg| Leg { style: Style::European, settlement: Settlement::Cash, ..*leg })
+            .collect();
+        let placement = leg_table(&legs);
+        move || folded((calls.cash)(&placement, 1), |cash| cash as u64)
     })
 }
 
@@ -189,6 +200,8 @@ fn ordinary() -> Vec<Row> {
         check_sheet("check sheet, one group of 256 strikes", &wide.tables()),
         margin("margin of a European long box (4 legs)", &long_box(1)),
         margin("margin of a European long box (256 legs)", &long_box(MOST_LEGS / 4)),
+        cash("cash required of 4 legs", &small.placement),
+        cash("cash required of 256 strikes", &wide.placement),
         margins("margins of one group of 256 strikes", &wide),
         margins("margins of 32 groups of 8", &full),
         margins("margins of one group of one strike", &crafted::one_strike()),

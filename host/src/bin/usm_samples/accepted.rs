@@ -1,7 +1,7 @@
 //! Samples that are accepted.
 
 use usm::accounts::{in_group, leg, placed, times};
-use usm::{Leg, Sheet, Style};
+use usm::{Leg, Settlement, Sheet, Style};
 
 use crate::list::{iron_condor, sample, Sample, ACCOUNT};
 
@@ -34,6 +34,11 @@ pub fn spreads() -> Vec<Sample> {
             placed(&long_box(Style::European), &[500_000]),
         ),
         sample(
+            "cash-account",
+            "All European, all stated as cash, one expiry: `sheet cash` tells what it requires.",
+            placed(&settled(Settlement::Cash), &[1_000_000]),
+        ),
+        sample(
             "calendar",
             "A short covered by a long of the same strike that expires later.",
             placed(&[leg("S50c"), Leg { expiry: 20110618, ..leg("L50c") }], &[0]),
@@ -55,6 +60,11 @@ pub fn spreads() -> Vec<Sample> {
 /// P5's legs in this style.
 fn long_box(style: Style) -> [Leg; 4] {
     ["L50c", "S60c", "L60p", "S50p"].map(|notation| Leg { style, ..leg(notation) })
+}
+
+/// A European vertical in group 1, settled so.
+pub fn settled(settlement: Settlement) -> [Leg; 2] {
+    ["L60c", "S50c"].map(|notation| Leg { style: Style::European, settlement, ..leg(notation) })
 }
 
 /// About the placement as a whole, and accepted.

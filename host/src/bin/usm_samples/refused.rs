@@ -1,8 +1,9 @@
 //! Samples that are refused.
 
 use usm::accounts::{in_group, leg, placed, times};
-use usm::{Leg, Sheet, Style};
+use usm::{Leg, Settlement, Sheet, Style};
 
+use crate::accepted::settled;
 use crate::changes;
 use crate::list::{changed, iron_condor, sample, Sample};
 
@@ -59,6 +60,17 @@ pub fn sheets() -> Vec<Sample> {
                     Leg { style: Style::European, ..in_group(0, leg("L60c")) },
                 ],
                 ..placed(&[leg("S50c"), leg("L60c")], &[1_000_000])
+            },
+        ),
+        sample(
+            "physical-against-cash",
+            "The account holds a long that is settled physically, the placement shows it as cash: other lines.",
+            Sheet {
+                holdings: vec![
+                    in_group(0, settled(Settlement::Physical)[0]),
+                    in_group(0, settled(Settlement::Cash)[1]),
+                ],
+                ..placed(&settled(Settlement::Cash), &[1_000_000])
             },
         ),
         sample(

@@ -1,4 +1,4 @@
-//! The margins of a sheet's groups, and the worksheet of one.
+//! The margins of a sheet's groups, the cash they require in a cash account, and the worksheet of one.
 
 use std::collections::BTreeSet;
 use std::ffi::OsStr;
@@ -6,7 +6,7 @@ use std::process::ExitCode;
 
 use usm::numbers::dollars;
 use usm::program::{self, shown};
-use usm::{sentences, Refusal, Sheet};
+use usm::{sentences, Reason, Refusal, Sheet};
 
 use crate::input::sheet;
 use crate::output::Output;
@@ -14,27 +14,36 @@ use crate::plot;
 
 /// The margin of each group that is placed or claimed; of a group that is no spread, why.
 pub fn margins(name: &OsStr) -> Result<ExitCode, String> {
+    amounts(name, Sheet::margin)
+}
+
+/// The cash required for each group; of a group that is not fit for a cash account, why.
+pub fn cash(name: &OsStr) -> Result<ExitCode, String> {
+    amounts(name, Sheet::cash)
+}
+
+fn amounts(name: &OsStr, of: fn(&Sheet, u64) -> Result<i64, Refusal>) -> Result<ExitCode, String> {
     let sheet = sheet(name)?;
-    let margins: Vec<(u64, Result<i64, Refusal>)> =
-        groups(&sheet).into_iter().map(|group| (group, sheet.margin(group))).collect();
-    if margins.is_empty() {
+    let amounts: Vec<(u64, Result<i64, Refusal>)> =
+        groups(&sheet).into_iter().map(|group| (group, of(&sheet, group))).collect();
+    if amounts.is_empty() {
         program::tell(&format!("{}: no group is placed or claimed", shown(name)));
     }
-    let known = || margins.iter().filter_map(|(_, margin)| margin.as_ref().ok());
-    let mills_width = known().map(|margin| margin.to_string().len()).max().unwrap_or(0);
-    let dollars_width = known().map(|margin| dollars(*margin).len()).max().unwrap_or(0);
+    let known = || amounts.iter().filter_map(|(_, amount)| amount.as_ref().ok());
+    let mills_width = known().map(|amount| amount.to_string().len()).max().unwrap_or(0);
+    let dollars_width = known().map(|amount| dollars(*amount).len()).max().unwrap_or(0);
     let mut output = Output::new();
-    for (group, margin) in &margins {
-        let margin = match margin {
-            Ok(margin) => {
-                format!("{margin:>mills_width$} mills  {:>dollars_width$}", dollars(*margin))
+    for (group, amount) in &amounts {
+        let amount = match amount {
+            Ok(amount) => {
+                format!("{amount:>mills_width$} mills  {:>dollars_width$}", dollars(*amount))
             }
             Err(refusal) => no_spread(&sheet, refusal),
         };
-        output.print(format!("group {group:>2}  {margin}\n").as_bytes())?;
+        output.print(format!("group {group:>2}  {amount}\n").as_bytes())?;
     }
     output.end()?;
-    Ok(status(margins.iter().all(|(_, margin)| margin.is_ok())))
+    Ok(status(amounts.iter().all(|(_, amount)| amount.is_ok())))
 }
 
 /// The groups of the placement and of the claims, ascending.
@@ -44,7 +53,11 @@ fn groups(sheet: &Sheet) -> BTreeSet<u64> {
 }
 
 fn no_spread(sheet: &Sheet, refusal: &Refusal) -> String {
-    format!("no spread, refusal {}: {}", refusal.number, sentences::of_sheet(sheet, refusal))
+    let what = match refusal.reason() {
+        Some(Reason::NotFitForCash) => "not for cash",
+        _ => "no spread",
+    };
+    format!("{what}, refusal {}: {}", refusal.number, sentences::of_sheet(sheet, refusal))
 }
 
 fn status(all_spreads: bool) -> ExitCode {

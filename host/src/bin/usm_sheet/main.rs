@@ -27,6 +27,7 @@ usage:
   sheet show FILE                 print a sheet file as text that `make` reads
   sheet check FILE.. [--json]     print the verdict on sheet files
   sheet margins FILE              print the margin of each group
+  sheet cash FILE                 print the cash that each group requires in a cash account
   sheet worksheet FILE G          print the net of group G at each of its strikes
   sheet to-new FILE ACCOUNT OUT   move a sheet file to the new form, with the number of its
                                   account in each block [--force]
@@ -41,7 +42,8 @@ options. An OUT that is there already is left alone unless --force is given. `ch
 the line of each file on standard output, behind its name if there are several, and
 sentences for people on standard error; with --json it prints one object a file instead. The
 exit status is 0 if all is well; 1 if `check` refuses a file, `play` a fill, or a group of
-`margins` or `worksheet` is no spread; 2 if something could not be done.
+`margins` or `worksheet` is no spread, or one of `cash` not fit for it; 2 if something could
+not be done.
 ";
 
 fn main() -> ExitCode {
@@ -63,6 +65,7 @@ fn run(words: Vec<OsString>) -> Result<ExitCode, String> {
         ("show", [file], false, false) => make::show(file),
         ("check", [_, ..], false, json) => check::check(files, json),
         ("margins", [file], false, false) => groups::margins(file),
+        ("cash", [file], false, false) => groups::cash(file),
         ("worksheet", [file, group], false, false) => groups::worksheet(file, group),
         ("to-new", [file, account, out], force, false) => moves::to_new(file, account, out, force),
         ("to-old", [file, out], force, false) => moves::to_old(file, out, force),

@@ -35,10 +35,12 @@ pub fn other_terms(random: &mut Random, tables: &mut Tables) {
         return;
     }
     let record = random.below(count);
-    let field = random.pick(&[SIDE, TYPE, STYLE, MARKET, UNIT_SIZE, UNDERLYING, STRIKE, EXPIRY, CONTRACTS]);
+    let field = random
+        .pick(&[SIDE, TYPE, STYLE, MARKET, UNIT_SIZE, UNDERLYING, STRIKE, EXPIRY, CONTRACTS, SETTLEMENT]);
     let old = get(&tables.placement, record, field);
     let new = match field {
         SIDE | TYPE | STYLE | MARKET => 3 - old.min(2),
+        SETTLEMENT => random.below(3) as u64,
         UNIT_SIZE => random.pick(&[1, 10, 100, 1_000]),
         UNDERLYING => random.pick(&[1, 2, old ^ 0x0100_0000, old ^ 1]),
         STRIKE => random.pick(&[old + 1, old.max(2) - 1, 60_000]),

@@ -6,14 +6,16 @@ use Rattle.records.proofs.legs.in_range.Tie as tie
 returns : tie.Need-returns
 unfolding inRange
 returns c =
-    let w = c .before .before .before .before .before in
+    let d = c .before .before in
+    let w = d .before .before .before .before .before in
     let v = w .before .before .before .before .before .before in
     rw (
-      c .is-within9 .ensures,
-      c .before .number .ensures,
-      c .before .before .real-date .ensures,
-      c .before .before .before .is-within8 .ensures,
-      c .before .before .before .before .is-within7 .ensures,
+      c .is-within10 .ensures,
+      d .is-within9 .ensures,
+      d .before .number .ensures,
+      d .before .before .real-date .ensures,
+      d .before .before .before .is-within8 .ensures,
+      d .before .before .before .before .is-within7 .ensures,
       w .is-within6 .ensures,
       w .before .before .is-within5 .ensures,
       w .before .before .before .before .is-within4 .ensures,
@@ -42,5 +44,7 @@ in-range-spec =
     (λ c κs. search needs)
     (λ c κs. search needs)
     (λ c κs. search needs)
+    (λ c κs. search needs)
+    (λ c. search needs)
     (λ c κs. search needs)
     returns)

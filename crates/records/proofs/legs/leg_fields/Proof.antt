@@ -6,12 +6,14 @@ use Rattle.records.proofs.legs.leg_fields.Tie as tie
 returns : tie.Need-returns
 unfolding legFields
 returns c =
-    let b = c .before .before .before .before in
+    let d = c .before in
+    let b = d .before .before .before .before in
     rw (
-      c .u32-in4 .ensures,
-      c .before .u32-in3 .ensures,
-      c .before .before .u32-in2 .ensures,
-      c .before .before .before .u32-in .ensures,
+      c .u8-in5 .ensures,
+      d .u32-in4 .ensures,
+      d .before .u32-in3 .ensures,
+      d .before .before .u32-in2 .ensures,
+      d .before .before .before .u32-in .ensures,
       b .u16-in2 .ensures,
       b .before .u8-in4 .ensures,
       b .before .before .u8-in3 .ensures,
@@ -24,6 +26,7 @@ pub leg-fields-spec : {M : Type 1} → statement M
 leg-fields-spec =
     tie.close
     (tie.spec
+    (λ c κs. search needs)
     (λ c κs. search needs)
     (λ c κs. search needs)
     (λ c κs. search needs)

@@ -1,27 +1,19 @@
 use Rattle.sheets.specs.Links.{digitsOf}
 use mathlib.Core.Path.{refl}
+use native.Mathlib.Omega.{arith}
 use borrow.Author.Needs.{needs}
 use Rattle.sheets.proofs.links.digits_of.Statement.{statement}
 use Rattle.sheets.proofs.links.digits_of.Tie as tie
 
 returns : tie.Need-returns
 unfolding digitsOf
-returns c = refl
+returns c = rw (c .before .before .before .before .sorts-of .ensures .0) refl
 
 pub digits-of-spec : {M : Type 1} → statement M
 digits-of-spec =
     tie.close
     (tie.spec
-    (λ c. search needs)
-    (λ c. search needs)
-    (λ c. search needs)
-    (λ c. search needs)
-    (λ c. search needs)
-    (λ c. search needs)
-    (λ c. search needs)
-    (λ c. search needs)
-    (λ c. search needs)
-    (λ c. search needs)
+    (λ c κs. search needs)
     (λ c. search needs)
     (λ c. search needs)
     (λ c. search needs)

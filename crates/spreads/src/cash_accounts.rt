@@ -1,0 +1,112 @@
+// 'Cash accounts': document 02, request 7.
+ghost use mathlib.Core.Path.{_≡_};
+ghost use mathlib.Core.List.{[], _∷_};
+ghost use Rattle.records.specs.Lists.{allOf};
+ghost use Rattle.records.specs.Order.{ask, firstOf};
+ghost use Rattle.records.specs.Tables.{legsOf};
+ghost use Rattle.spreads.specs.Calls.{dueAnswer};
+ghost use Rattle.spreads.specs.Cash.{fitsCash, isFit, cashRule, cashCall};
+ghost use Rattle.spreads.specs.Links.{Linked};
+ghost use Rattle.spreads.specs.Members.{legsAt, OneGroup};
+ghost use Rattle.spreads.specs.Spreads.{groupIn};
+ghost use Rattle.spreads.specs.Steps.{Checked};
+ghost use Rattle.spreads.specs.Strikes.{worstLoss};
+use crate::calls::Due;
+use crate::links::LINKS;
+use crate::links::NOWHERE;
+use crate::links::find_members;
+use crate::links::link_groups;
+use crate::members::member;
+use crate::required::required_of;
+use crate::rule::group_fault;
+use records::CASH;
+use records::Counted;
+use records::EUROPEAN;
+use records::Fault;
+use records::Kind;
+use records::Leg;
+use records::MOST_LEGS;
+use records::Refusal;
+
+// European, stated as cash, and of this expiry.
+fn fits_cash(expiry: u32, leg: Leg) -> bool
+    ensures { λ r. ⌜ r ≡ fitsCash expiry leg ⌝ }
+{
+    (leg.style == EUROPEAN) & (leg.settlement == CASH) & (leg.expiry == expiry)
+}
+
+// Whether every leg at these places is so.
+fn all_fit(placement: &[u8], members: &[u16], expiry: u32) -> bool
+    requires { ⌜ OneGroup (now placement) (now members) ⌝ }
+    ensures { λ r. ⌜ r ≡ allOf (fitsCash expiry) (legsAt (now (placement .entry)) (now (members .entry))) ⌝ }
+{
+    let mut i: usize = 0;
+    while i < members.len() {
+        let leg = member(placement, members, i);
+        if !fits_cash(expiry, leg) {
+            return false;
+        }
+        i += 1;
+    }
+    true
+}
+
+// Whether the legs at these places are fit for a cash account: the first leg's expiry is asked of all.
+fn fit_for_cash(placement: &[u8], members: &[u16]) -> bool
+    requires { ⌜ OneGroup (now placement) (now members) ⌝ }
+    ensures { λ r. ⌜ r ≡ isFit (legsAt (now (placement .entry)) (now (members .entry))) ⌝ }
+{
+    if members.len() == 0 {
+        return true;
+    }
+    all_fit(placement, members, member(placement, members, 0).expiry)
+}
+
+// 21, then the worst loss of a spread whose legs stand at these places.
+fn members_cash(placement: &[u8], g: usize, members: &[u16]) -> Due
+    requires { ⌜ OneGroup (now placement) (now members) ⌝ }
+    ensures { λ r. ⌜ r ≡ dueAnswer (firstOf (ask (isFit (legsAt (now (placement .entry)) (now (members .entry)))) 21 2 g ∷ [])) (worstLoss (legsAt (now (placement .entry)) (now (members .entry)))) ⌝ }
+{
+    if fit_for_cash(placement, members) {
+        return Due::Mills(required_of(false, placement, members) as i64);
+    }
+    Due::Refused(Refusal {
+        number: 21,
+        table: records::table_number(Kind::Placement),
+        place: g,
+    })
+}
+
+// The same of group g of a checked placement.
+fn group_cash(placement: &[u8], links: &[u16], g: usize) -> Due
+    requires { ⌜ Checked (now placement) ⌝ }
+    requires { ⌜ Linked (now placement) (now links) 0 ⌝ }
+    ensures { λ r. ⌜ r ≡ dueAnswer (firstOf (ask (isFit (groupIn (now (placement .entry)) g)) 21 2 g ∷ [])) (worstLoss (groupIn (now (placement .entry)) g)) ⌝ }
+{
+    let mut members = [0u16; MOST_LEGS];
+    let count = find_members(placement, links, g, &mut members);
+    members_cash(placement, g, &members[..count])
+}
+
+// 6 to 13 of group g of a checked placement, 21, then its worst loss.
+fn checked_cash(placement: &[u8], g: usize) -> Due
+    requires { ⌜ Checked (now placement) ⌝ }
+    ensures { λ r. ⌜ r ≡ dueAnswer (firstOf (cashRule g (legsOf (now (placement .entry))))) (worstLoss (groupIn (now (placement .entry)) g)) ⌝ }
+{
+    let mut links = [NOWHERE; LINKS];
+    link_groups(placement, &mut links);
+    match group_fault(placement, &links, g) {
+        Fault::Is(refusal) => Due::Refused(refusal),
+        Fault::Nothing => group_cash(placement, &links, g),
+    }
+}
+
+// The cash required for group g in a cash account.
+pub fn cash(placement: &[u8], g: usize) -> Due
+    ensures { λ r. ⌜ r ≡ cashCall (now (placement .entry)) g ⌝ }
+{
+    match records::check_table(Kind::Placement, placement) {
+        Counted::Refused(refusal) => Due::Refused(refusal),
+        Counted::Records(_) => checked_cash(placement, g),
+    }
+}
