@@ -33,8 +33,9 @@
  *               sets no errno. Calls may be made from any number of threads at once, with
  *               shared inputs, as long as each has an `answer` and buffers of its own.
  *   Stack       A call needs less than USM_STACK_BYTES of stack, whatever it is given; the only
- *               recursion is a call for each digit of a printed number. (usm_file_table takes under two thirds of it, usm_check_file and
- *               usm_file_line about half, the others a quarter at most.)
+ *               recursion is a call for each digit of a printed number. (usm_file_table takes under two
+ *               thirds of it, usm_check_file and usm_file_line some six tenths, usm_check_sheet and the
+ *               two moves three tenths, usm_play_fills and the others less than a seventh.)
  *
  * What each call answers and leaves in what it is lent is proved; how pointers, threads and the
  * stack behave is tested, in C and in C++, on each build of the library.
