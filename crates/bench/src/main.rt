@@ -49,6 +49,9 @@ use text::part;
 use text::says;
 use text::word;
 
+// The longest script; what is longer is cut.
+const SCRIPT_BYTES: usize = 131072;
+
 // Empties a table, appends the record that follows the word `try`, and checks it.
 fn attempt(line: &[u8], memory: &mut [u8], sizes: &mut [usize]) {
     let name = letter(line, 1);
@@ -185,7 +188,7 @@ fn run(script: &[u8], memory: &mut [u8], sizes: &mut [usize]) {
 }
 
 fn main() {
-    let mut script = io::large_buffer();
+    let mut script = [0u8; SCRIPT_BYTES];
     let n = io::read_full(STDIN_FILENO, &mut script);
     let mut memory = io::large_buffer();
     let mut sizes = [0usize; 5];
