@@ -142,6 +142,8 @@ static void try_all(void)
 {
     uint64_t answer[USM_ANSWER_NUMBERS];
     tried = 0;
+    usm_mark_paid(none(), 0, answer);
+    compare("usm_mark_paid", answer);
     for (uint64_t kind = 0; kind <= 4; kind++) {
         usm_check_table(kind, none(), 0, answer);
         compare("usm_check_table", answer);

@@ -242,6 +242,24 @@ static int play_a_day(const struct sheet *sheet)
     return 1;
 }
 
+/* A long that no group takes needs the paid mark; a sheet from before the mark goes through the pass. */
+static int mark_a_long(void)
+{
+    uint8_t held[USM_RECORD_BYTES], placed[USM_RECORD_BYTES];
+    uint64_t answer[USM_ANSWER_NUMBERS];
+    leg(held, 0, USM_LONG, USM_CALL, 80000);
+    leg(placed, 0, USM_LONG, USM_CALL, 80000);
+    usm_check_sheet(held, sizeof held, placed, sizeof placed, NULL, 0, answer);
+    if (!refused("usm_check_sheet", answer))
+        return 0;
+    usm_mark_paid(placed, sizeof placed, answer);
+    if (refused("usm_mark_paid", answer))
+        return 0;
+    printf("%" PRIu64 " long marked as paid, byte %d is %u\n", answer[1], (int)USM_LEG_PAID, placed[USM_LEG_PAID]);
+    usm_check_sheet(held, sizeof held, placed, sizeof placed, NULL, 0, answer);
+    return accepted("usm_check_sheet", answer);
+}
+
 /* An empty table is NULL and 0. */
 static int write_nothing(void)
 {
@@ -258,7 +276,7 @@ int main(void)
     if (!print_records(USM_HOLDINGS, sheet.holdings, sizeof sheet.holdings) ||
         !print_records(USM_PLACEMENT, sheet.placement, sizeof sheet.placement) ||
         !claim_margins(&sheet) || !print_margin(&sheet, 2) || !print_cash() || !print_worksheet(&sheet, 1) ||
-        !check(&sheet) || !write_and_read_back(&sheet) || !play_a_day(&sheet))
+        !check(&sheet) || !write_and_read_back(&sheet) || !play_a_day(&sheet) || !mark_a_long())
         return 1;
 
     /* There is no group 3 (6), a claim one mill short is 16, and three empty tables make no file. */

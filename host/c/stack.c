@@ -77,6 +77,7 @@ static void worksheet(void)
 {
     usm_worksheet(placement, sizeof placement, 1, strikes, USM_MOST_LEGS, nets, USM_MOST_LEGS, answer);
 }
+static void mark_paid(void) { usm_mark_paid(placement, sizeof placement, answer); }
 static void check_sheet(void)
 {
     usm_check_sheet(holdings, sizeof holdings, placement, sizeof placement, claims, sizeof claims, answer);
@@ -131,7 +132,7 @@ static size_t used(void (*of)(void))
 int main(void)
 {
     static void (*const calls[])(void) = {
-        check_table, margin, cash, margins, worksheet, check_sheet, check_file, read_file, write_file,
+        check_table, margin, cash, margins, worksheet, mark_paid, check_sheet, check_file, read_file, write_file,
         move_to_new, move_to_old, play_fills,
     };
     make_tables();

@@ -33,8 +33,9 @@
  *               sets no errno. Calls may be made from any number of threads at once, with
  *               shared inputs, as long as each has an `answer` and buffers of its own.
  *   Stack       A call needs less than USM_STACK_BYTES of stack, whatever it is given; the only
- *               recursion is a call for each digit of a printed number. (usm_file_table takes under two thirds of it, usm_check_file and
- *               usm_file_line about half, the others a quarter at most.)
+ *               recursion is a call for each digit of a printed number. (usm_file_table takes under two
+ *               thirds of it, usm_check_file and usm_file_line some six tenths, usm_check_sheet and the
+ *               two moves three tenths, usm_play_fills and the others less than a seventh.)
  *
  * What each call answers and leaves in what it is lent is proved; how pointers, threads and the
  * stack behave is tested, in C and in C++, on each build of the library.
@@ -60,7 +61,7 @@
  *   13  a short outlives a long                                   2, group
  *   14  contracts of a line and side differ between holdings
  *       and placement                                             1 or 2, record
- *   15  a short is not placed                                     2, record
+ *   15  a short, or a long without the paid mark, is not placed   2, record
  *   16  a claim is not its group's margin                         3, group
  *   17  no room in a lent buffer                                  see each call
  *   18  a fill closes more contracts than are held                listed only
@@ -119,7 +120,7 @@ enum {
     USM_PUT_UNITS_UNEQUAL = 12,
     USM_SHORT_OUTLIVES_LONG = 13,
     USM_CONTRACTS_DIFFER = 14,
-    USM_SHORT_NOT_PLACED = 15,
+    USM_NOT_PLACED = 15,
     USM_CLAIM_NOT_MARGIN = 16,
     USM_NO_ROOM = 17,
     USM_MORE_CLOSED_THAN_HELD = 18,
@@ -147,10 +148,11 @@ enum {
     USM_LEG_EXPIRY = 16,       /* 4 bytes: YYYYMMDD, a real date, 20000101 to 20991231 */
     USM_LEG_CONTRACTS = 20,    /* 4 bytes: 1 to 100,000 */
     USM_LEG_SETTLEMENT = 24,   /* 1 byte: USM_NOT_STATED, USM_CASH, USM_PHYSICAL */
-    USM_LEG_FILLER = 25        /* 7 bytes: zero */
+    USM_LEG_PAID = 25,         /* 1 byte: the paid mark, 0 or 1; an unplaced long needs 1 */
+    USM_LEG_FILLER = 26        /* 6 bytes: zero */
 };
 
-/* A fill is a leg record of the holdings in which one byte of the filler is the action. */
+/* A fill is a leg record of the holdings, without a paid mark, in which one byte of the filler is the action. */
 enum {
     USM_FILL_ACTION = 26       /* 1 byte: USM_OPEN, USM_CLOSE */
 };
@@ -234,6 +236,14 @@ void usm_worksheet(const uint8_t *placement, size_t placement_len, uint64_t g,
                    int64_t *nets, size_t nets_len, uint64_t *answer);
 
 /*
+ * Sets the paid mark on every unplaced long of a placement, where it stands. Sheets from before the mark
+ * was asked for go through this pass; a sheet that keeps every other rule is accepted after it.
+ *   success  { 0, marks set, 0, 0 }: those that were not set before; all other bytes stay
+ *   refusals 1; 4 over the whole table; then nothing is changed.
+ */
+void usm_mark_paid(uint8_t *placement, size_t placement_len, uint64_t *answer);
+
+/*
  * The verdict on a sheet given as three tables.
  *   success  { 0, groups, total margin, 0 }: the sheet is accepted
  *   refusals 1 for any of the three tables; 4 by table (holdings, placement, claims), then
@@ -307,7 +317,7 @@ void usm_move_to_old(const uint8_t *file, size_t file_len, uint8_t *out, size_t 
  * would: an open adds to the lot of the fill's side, a close takes from it. A line and side stands in one
  * record: repeats in the starting table are first added into the first such record. A new one goes to the
  * end; one at zero leaves, those behind move up, and its room is used again. The holdings that come out go
- * to result from byte 0, with filler zero. A refused fill changes nothing and play goes on; the indices of
+ * to result from byte 0, with paid mark and filler zero. A refused fill changes nothing and play goes on; the indices of
  * those that are refused go to indices[0] and following, in order, and their numbers to numbers[0] and
  * following: 4 for a field or an action out of range; 18 for a close of more than is held; 19 for the
  * 257th line and side, or more than 100,000 contracts of one.

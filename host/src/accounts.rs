@@ -5,7 +5,7 @@ use crate::records::{Claim, Leg, Market, OptionType, Settlement, Side, Style};
 use crate::sheet::Sheet;
 
 /// One leg, as `L60c` for long a call at 60 dollars: listed, American, unit 100, one
-/// underlying, one contract, expiry 20110521, settlement not stated, in group 1.
+/// underlying, one contract, expiry 20110521, settlement not stated, no paid mark, in group 1.
 ///
 /// # Panics
 ///
@@ -33,6 +33,7 @@ pub fn leg(notation: &str) -> Leg {
         expiry: 20110521,
         contracts: 1,
         settlement: Settlement::NotStated,
+        paid: false,
     }
 }
 
@@ -44,6 +45,11 @@ pub fn times(contracts: u32, notation: &str) -> Leg {
 /// A leg in another group, or in 0 for one that is held or not placed.
 pub fn in_group(group: u16, leg: Leg) -> Leg {
     Leg { group, ..leg }
+}
+
+/// A leg that is not placed and marked as paid.
+pub fn paid(leg: Leg) -> Leg {
+    Leg { group: 0, paid: true, ..leg }
 }
 
 /// The sheet that holds just what it places, and claims these margins for groups 1, 2, ...

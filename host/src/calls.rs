@@ -78,6 +78,18 @@ pub fn worksheet(placement: &[u8], g: u64, strikes: &mut [u32], nets: &mut [i64]
     ask(|answer| ffi::worksheet(placement, g, strikes, nets, answer)).map(|[rows, ..]| rows as usize)
 }
 
+/// Sets the paid mark on every unplaced long of a placement, where it stands; answers how many had none.
+///
+/// 1, then 4; then nothing is changed.
+///
+/// ```
+/// assert_eq!(usm::mark_paid(&mut []), Ok(0));
+/// assert_eq!(usm::mark_paid(&mut [0; 32]), Err(usm::Refusal::new(4, 2, 0)));
+/// ```
+pub fn mark_paid(placement: &mut [u8]) -> Result<usize, Refusal> {
+    ask(|answer| ffi::mark_paid(placement, answer)).map(|[marks, ..]| marks as usize)
+}
+
 /// The verdict on a sheet given as three tables.
 ///
 /// ```

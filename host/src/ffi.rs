@@ -42,6 +42,8 @@ extern "C" {
         answer: *mut u64,
     );
 
+    fn usm_mark_paid(placement: *mut u8, placement_len: usize, answer: *mut u64);
+
     fn usm_check_sheet(
         holdings: *const u8,
         holdings_len: usize,
@@ -146,6 +148,10 @@ pub fn worksheet(placement: &[u8], g: u64, strikes: &mut [u32], nets: &mut [i64]
             answer.as_mut_ptr(),
         )
     }
+}
+
+pub fn mark_paid(placement: &mut [u8], answer: &mut Answer) {
+    unsafe { usm_mark_paid(placement.as_mut_ptr(), placement.len(), answer.as_mut_ptr()) }
 }
 
 pub fn check_sheet(holdings: &[u8], placement: &[u8], claims: &[u8], answer: &mut Answer) {

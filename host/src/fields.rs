@@ -16,7 +16,8 @@ pub const STRIKE: Field = (12, 4);
 pub const EXPIRY: Field = (16, 4);
 pub const CONTRACTS: Field = (20, 4);
 pub const SETTLEMENT: Field = (24, 1);
-pub const FILLER: Field = (25, 7);
+pub const PAID: Field = (25, 1);
+pub const FILLER: Field = (26, 6);
 /// Of a fill; in a leg it is filler.
 pub const ACTION: Field = (ACTION_AT, 1);
 pub const CLAIM_MARGIN: Field = (8, 8);

@@ -8,7 +8,7 @@ use crate::sheet::{leg_table, records};
 /// What fills make of holdings.
 #[derive(Clone, Debug, PartialEq, Eq)]
 pub struct Played {
-    /// One record for each line and side that is held.
+    /// One record for each line and side that is held, without a paid mark.
     pub holdings: Vec<Leg>,
     /// The fills that were refused, in order: each with its number, [`FILLS_TABLE`], and its index as place.
     pub refused: Vec<Refusal>,
@@ -33,6 +33,7 @@ pub struct Played {
 ///     expiry: 20110521,
 ///     contracts: 5,
 ///     settlement: Settlement::NotStated,
+///     paid: false,
 /// };
 /// let close = |contracts| Fill { action: Action::Close, leg: Leg { contracts, ..held } };
 /// let day = play(&[held], &[close(2), close(4), close(1)])?;

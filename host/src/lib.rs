@@ -45,8 +45,8 @@ mod sheet;
 
 pub use block::{BLOCK_BYTES, LONGEST_FILE, MOST_BLOCKS};
 pub use calls::{
-    cash, check_file, check_sheet, check_table, file_line, file_table, margin, margins, move_to_new,
-    move_to_old, play_fills, read_file, worksheet, write_file,
+    cash, check_file, check_sheet, check_table, file_line, file_table, margin, margins, mark_paid,
+    move_to_new, move_to_old, play_fills, read_file, worksheet, write_file,
 };
 pub use fills::{fill_table, play, Played};
 pub use form::{Form, Origin};

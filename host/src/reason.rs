@@ -40,8 +40,8 @@ pub enum Reason {
     ShortOutlivesLong = 13,
     /// 14: holdings and placement differ in the contracts of a line and side.
     ContractsDiffer = 14,
-    /// 15: a short is not placed.
-    ShortNotPlaced = 15,
+    /// 15: a short, or a long that is not marked as paid, is not placed.
+    NotPlaced = 15,
     /// 16: a claim is not its group's margin.
     ClaimNotMargin = 16,
     /// 17: a lent slice has no room for the output.
@@ -73,7 +73,7 @@ impl Reason {
         Reason::PutUnitsUnequal,
         Reason::ShortOutlivesLong,
         Reason::ContractsDiffer,
-        Reason::ShortNotPlaced,
+        Reason::NotPlaced,
         Reason::ClaimNotMargin,
         Reason::NoRoom,
         Reason::MoreClosedThanHeld,

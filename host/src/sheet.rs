@@ -25,6 +25,7 @@ use crate::refusal::{Accepted, Refusal};
 ///     expiry: 20110521,
 ///     contracts: 1,
 ///     settlement: Settlement::NotStated,
+///     paid: false,
 /// };
 /// let short = Leg { side: Side::Short, strike: 50_000, ..long };
 /// let mut sheet = Sheet {
@@ -91,6 +92,15 @@ impl Sheet {
     pub fn check(&self) -> Result<Accepted, Refusal> {
         let Tables { holdings, placement, claims } = self.tables();
         calls::check_sheet(&holdings, &placement, &claims)
+    }
+
+    /// Marks every unplaced long of the placement as paid; answers how many were not. Sheets from before the
+    /// mark was asked for go through it.
+    pub fn mark_paid(&mut self) -> Result<usize, Refusal> {
+        let mut placement = leg_table(&self.placement);
+        let marks = calls::mark_paid(&mut placement)?;
+        self.placement = records(&placement, self.placement.len(), Leg::from_bytes);
+        Ok(marks)
     }
 
     /// The margin of group `g`, in mills.

@@ -246,7 +246,7 @@ fn assert_ranges(fields: &[Field], record: &[u8], table: Table) {
 #[test]
 fn the_ranges_of_a_leg_and_of_a_claim_are_those_of_the_library() {
     let (legs, claims) = (fields("### A leg record"), fields("### A claim record"));
-    assert_eq!((legs.len(), claims.len()), (12, 4));
+    assert_eq!((legs.len(), claims.len()), (13, 4));
     assert_ranges(&legs, &leg_table(&[leg("L60c")]), Table::Placement);
     assert_ranges(&claims, &claim_table(&[Claim { group: 1, margin: 1_000_000 }]), Table::Claims);
 }

@@ -40,7 +40,7 @@ fn p1_is_shown_as_document_02_has_it() {
 
 #[test]
 fn a_sheet_without_groups_prints_nothing() {
-    let long = "long 1 call 60.000 2011-05-21 unit 100 underlying 7 american listed";
+    let long = "long 1 call 60.000 2011-05-21 unit 100 underlying 7 american listed paid";
     assert_table(&file_of(&format!("holdings\n {long}\nplacement\n unplaced {long}\n")), "");
 }
 

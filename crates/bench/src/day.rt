@@ -29,12 +29,15 @@ fn kept_indices(indices: &[u32], from: usize) -> bool {
     true
 }
 
-// A row in four numbers: side, type, strike, contracts.
+// A row in four numbers, side, type, strike, contracts, and a word if it is marked as paid.
 fn print_row(row: Leg) {
     print_number(row.side as usize);
     print_number(row.right as usize);
     print_number(row.strike as usize);
     print_number(row.contracts.number() as usize);
+    if row.paid != 0 {
+        print(b" paid");
+    }
     print(b",");
 }
 

@@ -37,19 +37,21 @@ fn put_last_fields(memory: &mut [u8], at: usize, line: &[u8])
     add_number(memory, at + 20, 4, number(line, 10));
 }
 
-// The number after these, as the settlement of the leg at `at`; 0, not stated, where the line has none.
-fn put_settlement(memory: &mut [u8], at: usize, line: &[u8])
+// The numbers after these, as settlement and paid mark of the leg at `at`; 0 where the line has none.
+fn put_terms(memory: &mut [u8], at: usize, line: &[u8])
     requires { ⌜ at ≤ 98304 ⌝ }
 {
     add_number(memory, at + 24, 1, number(line, 11));
+    add_number(memory, at + 25, 1, number(line, 12));
 }
 
-// The numbers after them, as action and settlement of the fill at `at`.
+// The numbers after these, as action, settlement and paid mark of the fill at `at`.
 fn put_action(memory: &mut [u8], at: usize, line: &[u8])
     requires { ⌜ at ≤ 98304 ⌝ }
 {
     add_number(memory, at + 26, 1, number(line, 11));
     add_number(memory, at + 24, 1, number(line, 12));
+    add_number(memory, at + 25, 1, number(line, 13));
 }
 
 // Group and margin of a line, as the fields of the claim record at `at`.
@@ -79,7 +81,7 @@ pub(crate) fn append(line: &[u8], memory: &mut [u8], sizes: &mut [usize]) {
         put_action(memory, at, line);
         return;
     }
-    put_settlement(memory, at, line);
+    put_terms(memory, at, line);
 }
 
 // Repeats the last record until there are so many.

@@ -4,10 +4,10 @@
 // answers is printed with its answer. Tables are named by a letter, h holdings, p placement,
 // c claims, d the day's fills, and the file by f; numbers are decimal.
 //
-//   h, p GROUP SIDE TYPE STYLE MARKET SIZE UNDERLYING STRIKE EXPIRY CONTRACTS   append a leg; where one
-//                           number more follows, it is the settlement
-//   d .. CONTRACTS ACTION   append a fill: the numbers of a leg, then 1 open or 2 close, then the
-//                           settlement likewise
+//   h, p GROUP SIDE TYPE STYLE MARKET SIZE UNDERLYING STRIKE EXPIRY CONTRACTS   append a leg; numbers
+//                           that follow are the settlement and the paid mark
+//   d .. CONTRACTS ACTION   append a fill: the numbers of a leg, then 1 open or 2 close, then
+//                           settlement and mark likewise
 //   c GROUP MARGIN          append a claim
 //   fill T N STRIKE GROUP   append copies of the last record until there are N, each with so much
 //                           more strike and group than the one before
@@ -18,18 +18,21 @@
 //   clear                   empty all
 //   try h|p|c ..            empty a table, append the record and check the table
 //   check T · margin G · cash G · margins N ROOM · worksheet G STRIKES NETS · sheet
+//   mark                    set the paid mark on every unplaced long of the placement
 //   write ROOM [FORM ACCOUNT] · file · table · read ROOM ROOM ROOM · judge
 //   to_new ACCOUNT ROOM · to_old ROOM    the file, moved, takes the file's place
 //   again [FORM ACCOUNT]    whether the tables, written, are the file
 //   play RESULT INDICES NUMBERS   play the fills over the holdings, in slices of so many entries; the
 //                           result becomes the holdings, and no fills are left. Of the rows the last
-//                           eight are printed, of the refused fills the first eight
+//                           eight are printed, with the word paid where there is a mark, of the
+//                           refused fills the first eight
 mod bytes;
 mod calls;
 mod day;
 mod edits;
 mod files;
 mod lists;
+mod marks;
 mod memory;
 mod moves;
 mod print;
@@ -45,6 +48,9 @@ use text::number;
 use text::part;
 use text::says;
 use text::word;
+
+// The longest script; what is longer is cut.
+const SCRIPT_BYTES: usize = 131072;
 
 // Empties a table, appends the record that follows the word `try`, and checks it.
 fn attempt(line: &[u8], memory: &mut [u8], sizes: &mut [usize]) {
@@ -141,6 +147,10 @@ fn ask(line: &[u8], memory: &mut [u8], sizes: &mut [usize]) {
     if ask_files(line, memory, sizes) {
         return;
     }
+    if says(line, b"mark") {
+        marks::mark(memory, sizes);
+        return;
+    }
     if says(line, b"play") {
         day::play(line, memory, sizes);
         return;
@@ -178,7 +188,7 @@ fn run(script: &[u8], memory: &mut [u8], sizes: &mut [usize]) {
 }
 
 fn main() {
-    let mut script = io::large_buffer();
+    let mut script = [0u8; SCRIPT_BYTES];
     let n = io::read_full(STDIN_FILENO, &mut script);
     let mut memory = io::large_buffer();
     let mut sizes = [0usize; 5];

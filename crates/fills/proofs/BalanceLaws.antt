@@ -9,15 +9,13 @@ use lib.Dec.{eqb}
 use borrow.Author.Tests.{eqb-true, eqb-false, eq-eqb}
 use Rattle.records.specs.Lines.{sameLineSide, contractsOf}
 use Rattle.records.specs.Lists.{only, sumOf, All}
-use Rattle.records.specs.Tables.{goodRecord}
 use Rattle.records.specs.Within.{within}
 use Rattle.records.specs.declared.legs.Leg.{Leg}
-use Rattle.records.specs.declared.tables.Kind.the-variants.{Holdings}
 use Rattle.records.proofs.LineLaws.{line-sym, swap-line}
 use Rattle.records.proofs.ListLaws.{all-map}
 use Rattle.records.proofs.Measures.{sum-append}
 use Rattle.records.proofs.TableLaws.{within-true}
-use Rattle.fills.specs.Fills.{actionOf, isOpen, isClose, plainOf, fillLeg, goodFill}
+use Rattle.fills.specs.Fills.{actionOf, isOpen, isClose, plainOf, fillLeg, goodPlain, goodFill}
 use Rattle.fills.specs.Rows.{heldOf, opened, closed, merged}
 use Rattle.fills.specs.Played.{numberOver, rowsAfter, playedOver}
 use Rattle.fills.specs.Ledger.{Ledger, emptyLedger, startedFrom, ledgerAfter, StandFor, Filled, Apart}
@@ -88,7 +86,7 @@ opens-only f e = rw (eqb-true (actionOf f) 1 e)
 closes-only : (f : List ℕ) → goodFill f ≡ true → isOpen f ≡ false → isClose f ≡ true
 unfolding goodFill
 closes-only f g e =
-    let w = within-true 1 2 (actionOf f) (and-eq-true-iff (within 1 2 (actionOf f)) (goodRecord Holdings (plainOf f)) .0 g .0) in
+    let w = within-true 1 2 (actionOf f) (and-eq-true-iff (within 1 2 (actionOf f)) (goodPlain (plainOf f)) .0 g .0) in
     elim (decLe (actionOf f) 1) [
       | yes h ↦ absurd (eqb-false (actionOf f) 1 e (omega (arith, w .0)))
       | no h ↦ eq-eqb (actionOf f) 2 (omega (arith, w .1))

@@ -1,23 +1,24 @@
 -- A fill's action and the record that it is otherwise, as code takes them.
 use Prim.Native.Nat.{ℕ, _+_, _*_, _/_, _≤_, _<_}
-use mathlib.Core.Path.{_≡_, ap}
-use mathlib.Core.Bool.{Bool, true, false, cond, _&&_, and-false, and-eq-true-iff}
+use mathlib.Core.Path.{_≡_, sym, ap, _∙_}
+use mathlib.Core.Bool.{Bool, true, false, cond, not, _&&_, and-false, and-eq-true-iff, false≢true}
 use mathlib.Core.List.{List}
 use native.Mathlib.Decide.{decLe, ℕ-discrete}
 use native.Mathlib.Omega.{arith}
 use lib.ListN.{length, getD, set, drop, length-take, length-drop}
 use lib.Dec.{eqb}
 use lib.Seq.{getD-drop, getD-take, take-all}
-use borrow.Author.Tests.{eqb-true, lt-leb}
+use borrow.Author.Tests.{eqb-true, eq-eqb, lt-leb}
 use Rattle.records.specs.Bytes.{leAt}
 use Rattle.records.specs.Chunks.{chunkAt}
-use Rattle.records.specs.Legs.{legOf, inRange, goodLeg}
+use Rattle.records.specs.Legs.{legOf, isPaid, inRange, goodLeg}
 use Rattle.records.specs.Tables.{goodRecord}
 use Rattle.records.specs.Within.{within}
 use Rattle.records.specs.Written.{putAt}
 use Rattle.records.specs.declared.legs.Leg.{Leg}
 use Rattle.records.specs.declared.tables.Kind.the-variants.{Holdings}
-use Rattle.fills.specs.Fills.{actionAt, actionOf, plainOf, fillLeg, goodFill}
+use Rattle.records.proofs.TableLaws.{ranges}
+use Rattle.fills.specs.Fills.{actionAt, actionOf, plainOf, fillLeg, goodPlain, goodFill}
 use Rattle.fills.specs.Rows.{heldOf, opened, closed}
 use Rattle.fills.specs.Played.{openNumber, closeNumber, fillNumber, numberOver, rowsAfter}
 use Rattle.fills.proofs.PartLaws.{put-whole, put-one}
@@ -48,6 +49,27 @@ good-range xs e =
 pub good-size : (xs : List ℕ) → goodRecord Holdings xs ≡ true → length xs ≡ 32
 unfolding goodLeg
 good-size xs e = eqb-true (length xs) 32 (and-eq-true-iff (eqb (length xs) 32) _ .0 e .0)
+
+pub plain-record : (xs : List ℕ) → goodPlain xs ≡ true → goodRecord Holdings xs ≡ true
+unfolding goodPlain
+plain-record xs e = and-eq-true-iff (goodRecord Holdings xs) _ .0 e .0
+
+pub plain-unpaid : (xs : List ℕ) → goodPlain xs ≡ true → legOf xs .paid ≡ 0
+unfolding goodPlain
+plain-unpaid xs e =
+    let m = ranges 0 (legOf xs) (good-range xs (plain-record xs e)) .paid in
+    let n = and-eq-true-iff (goodRecord Holdings xs) (not (isPaid (legOf xs))) .0 e .1 in
+    elim (ℕ-discrete (legOf xs .paid) 1) [
+      | yes p ↦ absurd (false≢true (sym (ap not (eq-eqb (legOf xs .paid) 1 p)) ∙ n))
+      | no p ↦ unmarked-is (legOf xs .paid) m p
+    ]
+  where
+    unmarked-is : (n : ℕ) → n ≤ 1 → (n ≡ 1 → ⊥) → n ≡ 0
+    unmarked-is n h p =
+        elim (ℕ-discrete n 0) [
+          | yes q ↦ q
+          | no q ↦ absurd (p (omega arith))
+        ]
 
 -- a record of its own as the first of a table
 pub first-record : (xs : List ℕ) → length xs ≡ 32 → chunkAt 32 xs 0 ≡ xs
@@ -81,12 +103,12 @@ module _ (xs : List ℕ) (rows : List Leg) where
   unfolding rowsAfter
   said number after e f = (e, rw (e, f))
 
-  pub open-fill : goodRecord Holdings (plainOf xs) ≡ true → actionOf xs ≡ 1
+  pub open-fill : goodPlain (plainOf xs) ≡ true → actionOf xs ≡ 1
       → Said (openNumber (heldOf (fillLeg xs) rows) (length rows) (fillLeg xs .contracts .0)) (opened (fillLeg xs) rows)
   unfolding numberOver fillNumber goodFill
   open-fill g a = said _ _ (rw (a, g)) (rw a)
 
-  pub close-fill : goodRecord Holdings (plainOf xs) ≡ true → actionOf xs ≡ 2
+  pub close-fill : goodPlain (plainOf xs) ≡ true → actionOf xs ≡ 2
       → Said (closeNumber (heldOf (fillLeg xs) rows) (fillLeg xs .contracts .0)) (closed (fillLeg xs) rows)
   unfolding numberOver fillNumber goodFill
   close-fill g a = said _ _ (rw (a, g)) (rw a)
@@ -95,10 +117,10 @@ module _ (xs : List ℕ) (rows : List Leg) where
   unfolding numberOver fillNumber rowsAfter
   bad-fill b = (rw b, rw b)
 
-  pub bad-record : goodRecord Holdings (plainOf xs) ≡ false → (numberOver rows xs ≡ 4) × (rowsAfter rows xs ≡ rows)
+  pub bad-record : goodPlain (plainOf xs) ≡ false → (numberOver rows xs ≡ 4) × (rowsAfter rows xs ≡ rows)
   unfolding goodFill
   bad-record b = bad-fill (rw (b, and-false))
 
   pub bad-action : (actionOf xs ≡ 1 → ⊥) → (actionOf xs ≡ 2 → ⊥) → (numberOver rows xs ≡ 4) × (rowsAfter rows xs ≡ rows)
   unfolding goodFill
-  bad-action a b = bad-fill (ap (λ (t : Bool). t && goodRecord Holdings (plainOf xs)) (neither (actionOf xs) a b))
+  bad-action a b = bad-fill (ap (λ (t : Bool). t && goodPlain (plainOf xs)) (neither (actionOf xs) a b))

@@ -11,18 +11,16 @@ use borrow.Author.Tests.{eqb-true, eqb-false, ne-eqb, lt-leb}
 use Rattle.records.specs.Legs.{inRange}
 use Rattle.records.specs.Lines.{sameLineSide}
 use Rattle.records.specs.Lists.{only}
-use Rattle.records.specs.Tables.{goodRecord}
 use Rattle.records.specs.Within.{within}
 use Rattle.records.specs.declared.legs.Leg.{Leg}
-use Rattle.records.specs.declared.tables.Kind.the-variants.{Holdings}
 use Rattle.records.proofs.LineLaws.{line-sym}
 use Rattle.records.proofs.TableLaws.{ranges}
-use Rattle.fills.specs.Fills.{actionOf, isOpen, plainOf, fillLeg, goodFill}
+use Rattle.fills.specs.Fills.{actionOf, isOpen, plainOf, fillLeg, goodPlain, goodFill}
 use Rattle.fills.specs.Rows.{heldOf, opened, closed, mergedInto, merged}
 use Rattle.fills.specs.Played.{openNumber, closeNumber, fillNumber, numberOver, rowsAfter, playedOver, refusedOver}
 use Rattle.fills.specs.Ledger.{Ledger, emptyLedger, counts, posted, bought, sold, startedFrom, numberIn, ledgerAfter, ledgerOver, refusedBy, StandFor, Filled}
 use Rattle.fills.specs.Demands.{LedgerStands, LedgerRefuses, LedgerStarts}
-use Rattle.fills.proofs.FillLaws.{good-range}
+use Rattle.fills.proofs.FillLaws.{good-range, plain-record, plain-unpaid}
 use Rattle.fills.proofs.MergeLaws.{held-opened, held-merged}
 use Rattle.fills.proofs.RowLaws.{held-like, held-closed, apart-opened, apart-closed, some-opened, some-closed, length-opened-is, length-closed-is, rows-some}
 
@@ -99,9 +97,15 @@ module _ (held lines : ℕ) (xs : List ℕ) (z : fillNumber held lines xs ≡ 0)
       go true e q = e
       go false e q = absurd (omega (arith, q))
 
-  pub fill-range : inRange 0 (fillLeg xs) ≡ true
+  fill-plain : goodPlain (plainOf xs) ≡ true
   unfolding goodFill
-  fill-range = good-range (plainOf xs) (and-right (within 1 2 (actionOf xs)) (goodRecord Holdings (plainOf xs)) fill-good)
+  fill-plain = and-right (within 1 2 (actionOf xs)) (goodPlain (plainOf xs)) fill-good
+
+  pub fill-unpaid : fillLeg xs .paid ≡ 0
+  fill-unpaid = plain-unpaid (plainOf xs) fill-plain
+
+  pub fill-range : inRange 0 (fillLeg xs) ≡ true
+  fill-range = good-range (plainOf xs) (plain-record (plainOf xs) fill-plain)
 
   pub fill-one : 1 ≤ fillLeg xs .contracts .0
   fill-one = ranges 0 (fillLeg xs) fill-range .contracts .0

@@ -9,21 +9,19 @@ use lib.Dec.{eqb, leb}
 use lib.ListN.{length}
 use borrow.Author.Tests.{le-leb, lt-leb}
 use Rattle.records.specs.Chunks.{chunkAt}
-use Rattle.records.specs.Legs.{contractsFrom, legOf, withContracts}
+use Rattle.records.specs.Legs.{contractsFrom, withContracts}
 use Rattle.records.specs.Lines.{sameLineSide, contractsOf}
 use Rattle.records.specs.Lists.{only, sumOf}
 use Rattle.records.specs.Order.{firstOf, refuse}
-use Rattle.records.specs.Tables.{legsOf}
 use Rattle.records.specs.declared.legs.Leg.{Leg}
 use Rattle.records.specs.declared.refusals.Fault.{Fault}
 use Rattle.records.specs.declared.refusals.Fault.the-variants.{Nothing, Is}
 use Rattle.records.specs.declared.refusals.Refusal.{Refusal}
-use Rattle.records.proofs.ChunkLaws.{rowsFrom, rows-next, rows-none}
+use Rattle.records.proofs.ChunkLaws.{rowsFrom, rows-all, rows-next, rows-none}
 use Rattle.records.proofs.LineLaws.{line-sym, line-swap, line-with}
-use Rattle.records.proofs.TableLaws.{legs-all}
 use Rattle.fills.specs.Calls.{askPast}
 use Rattle.fills.specs.Played.{openNumber}
-use Rattle.fills.specs.Rows.{heldOf, more, opened, mergedInto, merged}
+use Rattle.fills.specs.Rows.{heldOf, more, opened, mergedInto, merged, unmarked, startingLegs}
 use Rattle.fills.specs.Steps.{rowsIn, Stand, Posted, mergedAnswer, mergedOf}
 use Rattle.fills.specs.declared.merge.Merged.the-variants.{Rows, Refused}
 use Rattle.fills.specs.declared.steps.Posting.{Posting}
@@ -97,22 +95,26 @@ length-opened x (y ∷ ys) = go (sameLineSide x y) (length-opened x ys)
 
 -- ---- the loop: the records before i are merged
 
+pub starting-all : (xs : List ℕ) → rowsFrom unmarked xs 0 ≡ startingLegs xs
+unfolding startingLegs
+starting-all xs = rows-all unmarked xs
+
 pub record Merging (xs rows : List ℕ) (n i : ℕ) : Type 0 where
   pub before : List Leg
-  pub whole : before ++ rowsFrom legOf xs i ≡ legsOf xs
+  pub whole : before ++ rowsFrom unmarked xs i ≡ startingLegs xs
   pub stand : Stand rows n (merged before)
   pub few : n ≤ i
-  pub asked : firstOf (askPast [] 0 (legsOf xs)) ≡ firstOf (askPast before i (rowsFrom legOf xs i))
+  pub asked : firstOf (askPast [] 0 (startingLegs xs)) ≡ firstOf (askPast before i (rowsFrom unmarked xs i))
 
 pub merging-none : (xs rows : List ℕ) → 8192 ≤ length rows → Merging xs rows 0 0
 unfolding mergedInto
 merging-none xs rows h =
     record {
       before = [];
-      whole = legs-all xs;
+      whole = starting-all xs;
       stand = stand-none rows h;
       few = omega arith;
-      asked = rw (legs-all xs);
+      asked = rw (starting-all xs);
     }
 
 past-good : (before ls l : List Leg) (i : ℕ) (x : Leg) → l ≡ x ∷ ls → contractsOf x before + x .contracts .0 ≤ 100000
@@ -151,11 +153,11 @@ number-past held lines n h e =
       | no k ↦ omega arith
     ]
 
-module _ {xs rows : List ℕ} {n i : ℕ} (m : Merging xs rows n i) (x : Leg) (h : i < length xs / 32) (k : i < 256) (e : x ≡ legOf (chunkAt 32 xs i))
+module _ {xs rows : List ℕ} {n i : ℕ} (m : Merging xs rows n i) (x : Leg) (h : i < length xs / 32) (k : i < 256) (e : x ≡ unmarked (chunkAt 32 xs i))
     (bytes : List ℕ) (r : Posting)
     (p : Posted (openNumber (heldOf x (rowsIn rows n)) n (x .contracts .0)) (opened x (rowsIn rows n)) (rowsIn rows n) bytes r) where
-  next : rowsFrom legOf xs i ≡ x ∷ rowsFrom legOf xs (i + 1)
-  next = rows-next legOf xs i x h e
+  next : rowsFrom unmarked xs i ≡ x ∷ rowsFrom unmarked xs (i + 1)
+  next = rows-next unmarked xs i x h e
 
   now-held : heldOf x (rowsIn rows n) ≡ contractsOf x (m .before)
   now-held = ap (heldOf x) (stand-rows (m .stand)) ∙ held-merged x (m .before)
@@ -168,35 +170,35 @@ module _ {xs rows : List ℕ} {n i : ℕ} (m : Merging xs rows n i) (x : Leg) (h
       let s : Stand bytes (r .rows) (merged (m .before ++ x ∷ [])) = rw (← q) (rw o at (p .stand)) in
       record {
         before = m .before ++ x ∷ [];
-        whole = append-one (m .before) x (rowsFrom legOf xs (i + 1)) ∙ ap (λ (l : List Leg). m .before ++ l) (sym next) ∙ m .whole;
+        whole = append-one (m .before) x (rowsFrom unmarked xs (i + 1)) ∙ ap (λ (l : List Leg). m .before ++ l) (sym next) ∙ m .whole;
         stand = s;
         few = omega (arith, s .count, ap length (merged-snoc (m .before) x), length-opened x (merged (m .before)), m .stand .count, m .few);
-        asked = m .asked ∙ past-good (m .before) (rowsFrom legOf xs (i + 1)) (rowsFrom legOf xs i) i x next (omega (arith, now-held));
+        asked = m .asked ∙ past-good (m .before) (rowsFrom unmarked xs (i + 1)) (rowsFrom unmarked xs i) i x next (omega (arith, now-held));
       }
     where
       append-one : (a : List Leg) (b : Leg) (c : List Leg) → (a ++ b ∷ []) ++ c ≡ a ++ b ∷ c
       append-one [] b c = refl
       append-one (y ∷ a) b c = ap (λ (t : List Leg). y ∷ t) (append-one a b c)
 
-  pub merging-stop : (r .number ≡ 0 → ⊥) → Refused (refuse 19 1 i) ≡ mergedOf (legsOf xs)
+  pub merging-stop : (r .number ≡ 0 → ⊥) → Refused (refuse 19 1 i) ≡ mergedOf (startingLegs xs)
   unfolding mergedOf
   merging-stop z =
       let f : 100000 < heldOf x (rowsIn rows n) + x .contracts .0 = number-past _ n _ (omega (arith, m .few)) (λ o. z (p .number ∙ o)) in
-      rw (m .asked ∙ past-bad (m .before) (rowsFrom legOf xs (i + 1)) (rowsFrom legOf xs i) i x next (omega (arith, now-held)))
+      rw (m .asked ∙ past-bad (m .before) (rowsFrom unmarked xs (i + 1)) (rowsFrom unmarked xs i) i x next (omega (arith, now-held)))
 
 module _ {xs rows : List ℕ} {n i : ℕ} (m : Merging xs rows n i) (h : length xs / 32 ≤ i) where
-  none : rowsFrom legOf xs i ≡ []
-  none = rows-none legOf xs i h
+  none : rowsFrom unmarked xs i ≡ []
+  none = rows-none unmarked xs i h
 
-  all : m .before ≡ legsOf xs
+  all : m .before ≡ startingLegs xs
   all = sym (append-nil (m .before)) ∙ ap (λ (l : List Leg). m .before ++ l) (sym none) ∙ m .whole
 
-  pub merging-stand : Stand rows n (merged (legsOf xs))
+  pub merging-stand : Stand rows n (merged (startingLegs xs))
   merging-stand = rw (← all) (m .stand)
 
-  pub merging-over : Rows n ≡ mergedOf (legsOf xs)
+  pub merging-over : Rows n ≡ mergedOf (startingLegs xs)
   unfolding mergedOf
-  merging-over = rw (m .asked ∙ past-none (m .before) (rowsFrom legOf xs i) i none) (ap Rows (sym (merging-stand .count)))
+  merging-over = rw (m .asked ∙ past-none (m .before) (rowsFrom unmarked xs i) i none) (ap Rows (sym (merging-stand .count)))
 
 -- ---- what the answer says
 

@@ -2,18 +2,18 @@
 use Prim.Native.Nat.{ℕ, suc, _+_, _-_, _*_, _/_, _%_, _≤_, _<_}
 use mathlib.Core.Path.{_≡_, refl, sym, ap, _∙_}
 use mathlib.Core.Bool.{Bool, true, false, cond, _&&_}
-use mathlib.Core.List.{List, [], _∷_, _++_, append-nil}
+use mathlib.Core.List.{List, [], _∷_, _++_, map, append-nil}
 use native.Mathlib.Decide.{decLe}
 use native.Mathlib.Omega.{arith}
 use lib.Dec.{eqb, leb}
 use lib.ListN.{length, take, length-append}
 use borrow.Author.Tests.{leb-true, le-leb, eq-eqb, eqb-true}
 use Rattle.records.specs.Chunks.{chunks, recordsOf}
-use Rattle.records.specs.Legs.{legBytes, legOf, inRange}
+use Rattle.records.specs.Legs.{legBytes, legOf, inRange, withContracts, withPaid}
 use Rattle.records.specs.Lines.{sameLineSide, contractsOf}
 use Rattle.records.specs.Lists.{All}
 use Rattle.records.specs.Order.{Check, firstOf}
-use Rattle.records.specs.Tables.{goodRecord, tableChecks, fieldChecks, legsOf, countedOf, wholeTable}
+use Rattle.records.specs.Tables.{goodRecord, tableChecks, fieldChecks, countedOf, wholeTable}
 use Rattle.records.specs.Written.{putAt}
 use Rattle.records.specs.declared.legs.Leg.{Leg}
 use Rattle.records.specs.declared.refusals.Fault.{Fault}
@@ -25,28 +25,30 @@ use Rattle.records.proofs.LineLaws.{line-sym}
 use Rattle.records.proofs.ListLaws.{map-all}
 use Rattle.records.proofs.PassLaws.{Pass, clear, unclear, pass-left, pass-right, pass-both, each-pass}
 use Rattle.records.proofs.PutLaws.{put-front, put-past}
-use Rattle.records.proofs.TableLaws.{ranges, fields-good, length-legs}
-use Rattle.records.proofs.ChunkLaws.{records-append}
+use Rattle.records.proofs.TableLaws.{ranges, fields-good}
+use Rattle.records.proofs.ChunkLaws.{records-append, length-rows}
 use Rattle.fills.specs.Fills.{isOpen, fillLeg}
-use Rattle.fills.specs.Rows.{heldOf, more, fewer, opened, closed, mergedInto, merged, bytesOf}
+use Rattle.fills.specs.Rows.{heldOf, more, fewer, opened, closed, mergedInto, merged, bytesOf, unmarked, startingLegs}
 use Rattle.fills.specs.Played.{openNumber, numberOver, rowsAfter, playedOver, refusedOver}
 use Rattle.fills.specs.Calls.{tableChecks as playTableChecks, askPast, roomChecks, playChecks, rowsPlayed, refusedIn, answered, playOf, left, indicesOf, numbersOf}
 use Rattle.fills.specs.Ledger.{Apart, Filled}
-use Rattle.fills.specs.Demands.{CallStands, ResultSound, ResultStays, Leaves, LeftBy, PlayLeaves}
+use Rattle.fills.specs.Demands.{CallStands, ResultSound, ResultUnpaid, ResultStays, Leaves, LeftBy, PlayLeaves}
 use Rattle.fills.specs.declared.calls.Played.{Played}
 use Rattle.fills.specs.declared.calls.Played.the-variants.{Done, Refused}
 use Rattle.fills.proofs.BalanceLaws.{contracts-apart}
 use Rattle.fills.proofs.FillLaws.{good-range}
-use Rattle.fills.proofs.LedgerLaws.{fill-range, fill-open, fill-close, ledger-stands, ledger-refuses}
+use Rattle.fills.proofs.LedgerLaws.{fill-range, fill-unpaid, fill-open, fill-close, ledger-stands, ledger-refuses}
 use Rattle.fills.proofs.MergeLaws.{held-merged, merged-snoc, length-opened}
 use Rattle.fills.proofs.PlayLaws.{Tabled, tables-clear}
 use Rattle.fills.proofs.RowLaws.{all-opened, all-closed, left-some, length-opened-is}
-use Rattle.fills.proofs.StandLaws.{length-bytes, one-record, legs-back, with-range}
+use Rattle.fills.proofs.StandLaws.{length-bytes, one-record, legs-back, with-range, unpaid-range}
+use Rattle.fills.proofs.UnpaidLaws.{unpaid, starting-is, unpaid-same, start-same}
 
 -- rows that make a table of holdings
 record Fine (rows : List Leg) : Type 0 where
   pub few : length rows ≤ 256
   pub good : All (λ l. inRange 0 l ≡ true) rows
+  pub unpaid : All (λ l. l .paid ≡ 0) rows
 
 filled : (rows : List Leg) → All (λ l. inRange 0 l ≡ true) rows → Filled rows
 filled [] a = tt
@@ -65,6 +67,14 @@ good-closed : (x : Leg) (rows : List Leg) → x .contracts .0 ≤ heldOf x rows
 good-closed x rows h a =
     all-closed (λ l. inRange 0 l ≡ true) x rows
     (λ y k e n. with-range y (y .contracts .0 - x .contracts .0) k (left-some (y .contracts .0) (x .contracts .0) (omega arith) n) (omega (arith, ranges 0 y k .contracts .1))) a
+
+unpaid-opened : (x : Leg) (rows : List Leg) → x .paid ≡ 0 → All (λ l. l .paid ≡ 0) rows → All (λ l. l .paid ≡ 0) (opened x rows)
+unfolding withContracts
+unpaid-opened x rows p a = all-opened (λ l. l .paid ≡ 0) x rows (λ y k e. k) p a
+
+unpaid-closed : (x : Leg) (rows : List Leg) → All (λ l. l .paid ≡ 0) rows → All (λ l. l .paid ≡ 0) (closed x rows)
+unfolding withContracts
+unpaid-closed x rows a = all-closed (λ l. l .paid ≡ 0) x rows (λ y k e n. k) a
 
 length-closed : (x : Leg) (rows : List Leg) → length (closed x rows) ≤ length rows
 unfolding closed
@@ -95,11 +105,12 @@ opens-room held lines n e z =
       | no h ↦ omega arith
     ]
 
-fine-opened : (x : Leg) (rows : List Leg) → inRange 0 x ≡ true → openNumber (heldOf x rows) (length rows) (x .contracts .0) ≡ 0 → Fine rows → Fine (opened x rows)
-fine-opened x rows g e f =
+fine-opened : (x : Leg) (rows : List Leg) → inRange 0 x ≡ true → x .paid ≡ 0 → openNumber (heldOf x rows) (length rows) (x .contracts .0) ≡ 0 → Fine rows → Fine (opened x rows)
+fine-opened x rows g u e f =
     record {
       few = go (eqb (heldOf x rows) 0) refl (length-opened-is x rows (filled rows (f .good)));
       good = good-opened x rows g (opens-fits (heldOf x rows) (length rows) (x .contracts .0) e) (f .good);
+      unpaid = unpaid-opened x rows u (f .unpaid);
     }
   where
     go : (b : Bool) → eqb (heldOf x rows) 0 ≡ b → length (opened x rows) ≡ length rows + (1 - cond b 0 1) → length (opened x rows) ≤ 256
@@ -107,7 +118,12 @@ fine-opened x rows g e f =
     go false k o = omega (arith, o, f .few)
 
 fine-closed : (x : Leg) (rows : List Leg) → x .contracts .0 ≤ heldOf x rows → Fine rows → Fine (closed x rows)
-fine-closed x rows h f = record { few = omega (arith, length-closed x rows, f .few); good = good-closed x rows h (f .good) }
+fine-closed x rows h f =
+    record {
+      few = omega (arith, length-closed x rows, f .few);
+      good = good-closed x rows h (f .good);
+      unpaid = unpaid-closed x rows (f .unpaid);
+    }
 
 fine-after : (rows : List Leg) (xs : List ℕ) → Fine rows → Fine (rowsAfter rows xs)
 unfolding rowsAfter numberOver
@@ -118,7 +134,7 @@ fine-after rows xs f = go (eqb (numberOver rows xs) 0) refl (isOpen xs) refl
     go true e true q =
         let z = eqb-true (numberOver rows xs) 0 e in
         let held = heldOf (fillLeg xs) rows in
-        fine-opened (fillLeg xs) rows (fill-range held (length rows) xs z) (fill-open held (length rows) xs z q) f
+        fine-opened (fillLeg xs) rows (fill-range held (length rows) xs z) (fill-unpaid held (length rows) xs z) (fill-open held (length rows) xs z q) f
     go true e false q =
         let z = eqb-true (numberOver rows xs) 0 e in
         fine-closed (fillLeg xs) rows (fill-close (heldOf (fillLeg xs) rows) (length rows) xs z q) f
@@ -135,30 +151,32 @@ append-one : (a : List Leg) (b : Leg) (c : List Leg) → (a ++ b ∷ []) ++ c �
 append-one [] b c = refl
 append-one (y ∷ a) b c = ap (λ (t : List Leg). y ∷ t) (append-one a b c)
 
--- the records before, merged: in range, and no more than they were
+-- the records before, merged: in range, not marked, and no more than they were
 record Started (before : List Leg) : Type 0 where
   pub good : All (λ l. inRange 0 l ≡ true) (merged before)
+  pub unpaid : All (λ l. l .paid ≡ 0) (merged before)
   pub few : length (merged before) ≤ length before
 
-started : (before rest : List Leg) (i : ℕ) → Started before → Pass (askPast before i rest) → All (λ l. inRange 0 l ≡ true) rest → Started (before ++ rest)
+started : (before rest : List Leg) (i : ℕ) → Started before → Pass (askPast before i rest) → All (λ l. inRange 0 l ≡ true) rest → All (λ l. l .paid ≡ 0) rest → Started (before ++ rest)
 unfolding askPast
-started before [] i s p a = rw (append-nil before) s
-started before (x ∷ xs) i s p a =
+started before [] i s p a u = rw (append-nil before) s
+started before (x ∷ xs) i s p a u =
     let h = leb-true (contractsOf x before + x .contracts .0) 100000 (p .0) in
     let g = good-opened x (merged before) (a .0) (omega (arith, held-merged x before)) (s .good) in
     let l : length (before ++ x ∷ []) ≡ length before + 1 = length-append before (x ∷ []) in
     let next : Started (before ++ x ∷ []) =
     record {
       good = rw (merged-snoc before x) g;
+      unpaid = rw (merged-snoc before x) (unpaid-opened x (merged before) (u .0) (s .unpaid));
       few = rw (merged-snoc before x) (omega (arith, length-opened x (merged before), s .few));
     } in
-    rw (← append-one) (started (before ++ x ∷ []) xs (i + 1) next (p .1) (a .1))
+    rw (← append-one) (started (before ++ x ∷ []) xs (i + 1) next (p .1) (a .1) (u .1))
 
 -- ---- a call that is not refused
 
 record Passed (h f : List ℕ) : Type 0 where
   pub tabled : Tabled h f
-  pub lots : Pass (askPast [] 0 (legsOf h))
+  pub lots : Pass (askPast [] 0 (startingLegs h))
 
 passed : (h f : List ℕ) (result indices numbers n k : ℕ) → playOf h f result indices numbers ≡ Done n k → Passed h f × (n ≡ length (rowsPlayed h f))
 unfolding playOf playChecks
@@ -168,37 +186,53 @@ passed h f result indices numbers n k e = go (firstOf checks) refl e
     room = roomChecks (length f / 32) result indices numbers
 
     checks : List Check
-    checks = playTableChecks h f ++ (askPast [] 0 (legsOf h) ++ room)
+    checks = playTableChecks h f ++ (askPast [] 0 (startingLegs h) ++ room)
 
     go : (v : Fault) → firstOf checks ≡ v → answered v (length (rowsPlayed h f)) (length (refusedIn h f)) ≡ Done n k → Passed h f × (n ≡ length (rowsPlayed h f))
     go Nothing q r =
         let p = clear checks q in (
           record {
-            tabled = tables-clear h f (unclear (playTableChecks h f) (pass-left (playTableChecks h f) (askPast [] 0 (legsOf h) ++ room) p));
-            lots = pass-left (askPast [] 0 (legsOf h)) room (pass-right (playTableChecks h f) (askPast [] 0 (legsOf h) ++ room) p);
+            tabled = tables-clear h f (unclear (playTableChecks h f) (pass-left (playTableChecks h f) (askPast [] 0 (startingLegs h) ++ room) p));
+            lots = pass-left (askPast [] 0 (startingLegs h)) room (pass-right (playTableChecks h f) (askPast [] 0 (startingLegs h) ++ room) p);
           },
           cc,
         )
     go (Is x) q r = let z : _≡_ {A = ℕ} 0 1 = cc in absurd (omega arith)
 
-legs-good : (h : List ℕ) → firstOf (fieldChecks Holdings h) ≡ Nothing → All (λ l. inRange 0 l ≡ true) (legsOf h)
-unfolding legsOf
-legs-good h e = map-all legOf (λ l. inRange 0 l ≡ true) (λ r. goodRecord Holdings r ≡ true) (recordsOf h) good-range (fields-good Holdings h e)
+legs-good : (h : List ℕ) → firstOf (fieldChecks Holdings h) ≡ Nothing → All (λ l. inRange 0 l ≡ true) (startingLegs h)
+unfolding startingLegs unmarked
+legs-good h e =
+    map-all unmarked (λ l. inRange 0 l ≡ true) (λ r. goodRecord Holdings r ≡ true) (recordsOf h) (λ r g. unpaid-range (legOf r) (good-range r g))
+    (fields-good Holdings h e)
+
+each-unpaid : (rs : List (List ℕ)) → All (λ l. l .paid ≡ 0) (map unmarked rs)
+unfolding unmarked withPaid
+each-unpaid [] = tt
+each-unpaid (r ∷ rs) = (refl, each-unpaid rs)
+
+legs-unpaid : (h : List ℕ) → All (λ l. l .paid ≡ 0) (startingLegs h)
+unfolding startingLegs
+legs-unpaid h = each-unpaid (recordsOf h)
+
+length-starting : (h : List ℕ) → length (startingLegs h) ≡ length h / 32
+unfolding startingLegs
+length-starting h = length-rows unmarked h
 
 none-started : Started []
 unfolding mergedInto
-none-started = record { good = tt; few = omega arith }
+none-started = record { good = tt; unpaid = tt; few = omega arith }
 
 module _ (h f : List ℕ) (p : Passed h f) where
   rows-fine : Fine (rowsPlayed h f)
   unfolding rowsPlayed
   rows-fine =
-      let s = started [] (legsOf h) 0 none-started (p .lots) (legs-good h (p .tabled .fields)) in
-      fine-over (merged (legsOf h)) (recordsOf f) (record { few = omega (arith, s .few, length-legs h, p .tabled .torn); good = s .good })
+      let s = started [] (startingLegs h) 0 none-started (p .lots) (legs-good h (p .tabled .fields)) (legs-unpaid h) in
+      fine-over (merged (startingLegs h)) (recordsOf f)
+      (record { few = omega (arith, s .few, length-starting h, p .tabled .torn); good = s .good; unpaid = s .unpaid })
 
   rows-apart : Apart (rowsPlayed h f)
   unfolding rowsPlayed
-  rows-apart = ledger-stands (legsOf h) (recordsOf f) (filled (legsOf h) (legs-good h (p .tabled .fields))) .apart
+  rows-apart = ledger-stands (startingLegs h) (recordsOf f) (filled (startingLegs h) (legs-good h (p .tabled .fields))) .apart
 
 listed : (h f : List ℕ) (result indices numbers n k : ℕ) → playOf h f result indices numbers ≡ Done n k → k ≡ length (refusedIn h f)
 unfolding playOf
@@ -235,7 +269,17 @@ result-sound h f result indices numbers n k e =
     let p = passed h f result indices numbers n k e in
     table-sound (rowsPlayed h f) (rows-fine h f (p .0)) ∙ ap Records (sym (p .1))
 
+-- 'replayed holdings get mark 0'
+pub result-unpaid : ResultUnpaid
+result-unpaid h f result indices numbers n k e =
+    let fine = rows-fine h f (passed h f result indices numbers n k e .0) in
+    rw (legs-back (rowsPlayed h f) (fine .good)) (fine .unpaid)
+
 -- ---- played over by no fills
+
+-- rows that are not marked are started from as they are
+starting-same : (rows : List Leg) → Fine rows → startingLegs (bytesOf rows) ≡ rows
+starting-same rows f = starting-is (bytesOf rows) ∙ ap (map unpaid) (legs-back rows (f .good)) ∙ unpaid-same rows (f .unpaid)
 
 opened-new : (x : Leg) (rows : List Leg) → All (λ y. sameLineSide y x ≡ false) rows → opened x rows ≡ rows ++ x ∷ []
 unfolding opened
@@ -260,7 +304,7 @@ merged-apart rows (x ∷ xs) a =
 
 again : (rows : List Leg) → Fine rows → Apart rows → rowsPlayed (bytesOf rows) [] ≡ rows
 unfolding rowsPlayed playedOver chunks
-again rows f a = rw (legs-back rows (f .good)) (merged-apart [] rows a)
+again rows f a = rw (starting-same rows f) (merged-apart [] rows a)
 
 -- no fill is played, and none refused
 none-refused : (h : List ℕ) → refusedIn h [] ≡ []
@@ -283,11 +327,11 @@ again-clear rows room i j f a h =
     let w = whole-bytes rows f in
     let fields : Pass (playTableChecks (bytesOf rows) []) =
     (rw w, each-pass (goodRecord Holdings) 4 1 0 (recordsOf (bytesOf rows)) (records-good rows (f .good))) in
-    let lots : Pass (askPast [] 0 (legsOf (bytesOf rows))) = rw (legs-back rows (f .good)) (past-apart [] rows 0 a (f .good)) in
+    let lots : Pass (askPast [] 0 (startingLegs (bytesOf rows))) = rw (starting-same rows f) (past-apart [] rows 0 a (f .good)) in
     let room-there : Pass (roomChecks 0 room i j) = (le-leb 8192 room h, (rw (le-leb 0 i (omega arith), le-leb 0 j (omega arith)), tt)) in
     unclear (playChecks (bytesOf rows) [] room i j)
-    (pass-both (playTableChecks (bytesOf rows) []) (askPast [] 0 (legsOf (bytesOf rows)) ++ roomChecks 0 room i j) fields
-    (pass-both (askPast [] 0 (legsOf (bytesOf rows))) (roomChecks 0 room i j) lots room-there))
+    (pass-both (playTableChecks (bytesOf rows) []) (askPast [] 0 (startingLegs (bytesOf rows)) ++ roomChecks 0 room i j) fields
+    (pass-both (askPast [] 0 (startingLegs (bytesOf rows))) (roomChecks 0 room i j) lots room-there))
 
 again-done : (rows : List Leg) (room i j : ℕ) → Fine rows → Apart rows → 8192 ≤ room → playOf (bytesOf rows) [] room i j ≡ Done (length rows) 0
 unfolding playOf
@@ -314,8 +358,8 @@ pub call-stands : CallStands
 unfolding rowsPlayed refusedIn
 call-stands h f result indices numbers n k e =
     let p = passed h f result indices numbers n k e .0 in
-    let some = filled (legsOf h) (legs-good h (p .tabled .fields)) in
-    (ledger-stands (legsOf h) (recordsOf f) some, ledger-refuses (legsOf h) (recordsOf f) some)
+    let some = filled (startingLegs h) (legs-good h (p .tabled .fields)) in
+    rw (← start-same h) (ledger-stands (startingLegs h) (recordsOf f) some, ledger-refuses (startingLegs h) (recordsOf f) some)
 
 -- ---- what is left in the lent slices
 

@@ -9,7 +9,7 @@ use lib.Seq.{take-at, drop-at, take-take, take-all, drop-cons, length-take-le}
 use borrow.Author.Tests.{le-leb}
 use Rattle.records.specs.Dates.{realDate}
 use Rattle.records.specs.Chunks.{chunks, chunkAt, recordsOf}
-use Rattle.records.specs.Legs.{contractsFrom, legOf, legBytes, inRange, withContracts}
+use Rattle.records.specs.Legs.{contractsFrom, legOf, legBytes, inRange, withContracts, withPaid}
 use Rattle.records.specs.Lists.{All}
 use Rattle.records.specs.Tables.{legsOf}
 use Rattle.records.specs.Within.{within}
@@ -197,7 +197,17 @@ others l =
 pub with-range : (l : Leg) (n : ℕ) → inRange 0 l ≡ true → 1 ≤ n → n ≤ 100000 → inRange 0 (withContracts l (contractsFrom n)) ≡ true
 unfolding inRange withContracts others
 with-range l n e a b =
-    let p = and-eq-true-iff (others l && within 1 100000 (l .contracts .0)) (within 0 2 (l .settlement)) .0 e in
+    let m = and-eq-true-iff (others l && within 1 100000 (l .contracts .0) && within 0 2 (l .settlement)) (within 0 1 (l .paid)) .0 e in
+    let p = and-eq-true-iff (others l && within 1 100000 (l .contracts .0)) (within 0 2 (l .settlement)) .0 (m .0) in
     let q : others l ≡ true = and-eq-true-iff (others l) (within 1 100000 (l .contracts .0)) .0 (p .0) .0 in
     let r : within 0 2 (l .settlement) ≡ true = p .1 in
-    rw (q, le-leb 1 n a, le-leb n 100000 b, r)
+    let s : within 0 1 (l .paid) ≡ true = m .1 in
+    rw (q, le-leb 1 n a, le-leb n 100000 b, r, s)
+
+-- and without its mark
+pub unpaid-range : (l : Leg) → inRange 0 l ≡ true → inRange 0 (withPaid l 0) ≡ true
+unfolding inRange withPaid others
+unpaid-range l e =
+    let m = and-eq-true-iff (others l && within 1 100000 (l .contracts .0) && within 0 2 (l .settlement)) (within 0 1 (l .paid)) .0 e in
+    let p : (others l && within 1 100000 (l .contracts .0) && within 0 2 (l .settlement)) ≡ true = m .0 in
+    rw p

@@ -5,11 +5,12 @@ use Prim.Native.Nat.{ℕ, _+_, _*_, _≤_}
 use lib.ListN.{length, take, drop}
 use Rattle.records.specs.Chunks.{recordsOf}
 use Rattle.records.specs.Lines.{contractsOf}
+use Rattle.records.specs.Lists.{All}
 use Rattle.records.specs.Tables.{countedOf, legsOf}
 use Rattle.records.specs.declared.legs.Leg.{Leg}
 use Rattle.records.specs.declared.tables.Kind.the-variants.{Holdings}
 use Rattle.records.specs.declared.tables.Counted.the-variants.{Records}
-use Rattle.fills.specs.Rows.{merged, bytesOf}
+use Rattle.fills.specs.Rows.{merged, bytesOf, startingLegs}
 use Rattle.fills.specs.Played.{playedOver, refusedOver}
 use Rattle.fills.specs.Calls.{rowsPlayed, refusedIn, playOf, left, indicesOf, numbersOf}
 use Rattle.fills.specs.Ledger.{Ledger, emptyLedger, startedFrom, ledgerOver, refusedBy, StandFor, Filled}
@@ -52,12 +53,21 @@ ContractsKept = (legs : List Leg) (fills : List (List ℕ)) → Filled legs
     → (let accepted = acceptedOver (merged legs) fills in
     contractsOf x (playedOver (merged legs) fills) + closedIn x accepted ≡ contractsOf x legs + openedIn x accepted)
 
+-- the starting table without its marks has the contracts of the starting table
+abbrev pub StartingContracts : Type 0
+StartingContracts = (x : Leg) (h : List ℕ) → contractsOf x (startingLegs h) ≡ contractsOf x (legsOf h)
+
 -- ---- the result table of a call that is not refused
 
 -- it is a table of holdings: whole records, at most 256, each field in its range
 abbrev pub ResultSound : Type 0
 ResultSound = (h f : List ℕ) (result indices numbers n k : ℕ) → playOf h f result indices numbers ≡ Done n k
     → countedOf Holdings (bytesOf (rowsPlayed h f)) ≡ Records n
+
+-- 'replayed holdings get mark 0': every record of it, touched by a fill or not
+abbrev pub ResultUnpaid : Type 0
+ResultUnpaid = (h f : List ℕ) (result indices numbers n k : ℕ) → playOf h f result indices numbers ≡ Done n k
+    → All (λ l. l .paid ≡ 0) (legsOf (bytesOf (rowsPlayed h f)))
 
 -- With no fills at all it comes out as it went in: a second call, over the records that the first left in `result`, answers as many
 -- and no refused fill, in any lent slices with room for a table, and leaves the same records there.

@@ -38,6 +38,7 @@ fields-back top l t r =
       four (l .expiry) (omega arith),
       four (l .contracts .0) (omega arith),
       one (l .settlement),
+      one (l .paid),
     )
 
 -- a leg in its ranges is read as it was said
@@ -45,7 +46,7 @@ pub leg-back : (top : ℕ) (l : Leg) → top < 65536 → inRange top l ≡ true 
 unfolding legOf
 leg-back top l t e = rw (length-leg-bytes l) (fields-back top l t (ranges top l e))
 
-filler-zero : (l : Leg) → zeroIn (legBytes l) 25 31 ≡ true
+filler-zero : (l : Leg) → zeroIn (legBytes l) 26 31 ≡ true
 unfolding zeroIn allOf legBytes leBytes
 filler-zero l = refl
 

@@ -6,7 +6,7 @@ use mathlib.Core.List.{List}
 use Prim.Native.Nat.{ℕ}
 use lib.Dec.{eqb}
 use borrow.Author.Tests.{eq-eqb}
-use Rattle.records.specs.Legs.{withContracts}
+use Rattle.records.specs.Legs.{withContracts, withPaid}
 use Rattle.records.specs.Lists.{same}
 use Rattle.records.specs.Lines.{lineOf, lineSideOf, sameLine, sameLineSide}
 use Rattle.records.specs.declared.counts.Contracts.{Contracts}
@@ -49,3 +49,12 @@ line-with x y c = refl
 pub with-line : (x y : Leg) (c : Contracts) → sameLineSide (withContracts x c) y ≡ sameLineSide x y
 unfolding sameLineSide withContracts
 with-line x y c = refl
+
+-- the paid mark is no part of it
+pub line-paid : (x y : Leg) (m : ℕ) → sameLineSide x (withPaid y m) ≡ sameLineSide x y
+unfolding sameLineSide withPaid
+line-paid x y m = refl
+
+pub paid-line : (x y : Leg) (m : ℕ) → sameLineSide (withPaid x m) y ≡ sameLineSide x y
+unfolding sameLineSide withPaid
+paid-line x y m = refl

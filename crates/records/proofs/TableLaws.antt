@@ -41,6 +41,7 @@ pub record Ranges (top : ℕ) (l : Leg) : Type 0 where
   pub expiry : (20000101 ≤ l .expiry) × (l .expiry ≤ 20991231)
   pub contracts : (1 ≤ l .contracts .0) × (l .contracts .0 ≤ 100000)
   pub settlement : l .settlement ≤ 2
+  pub paid : l .paid ≤ 1
 
 pub within-true : (low high x : ℕ) → within low high x ≡ true → (low ≤ x) × (x ≤ high)
 within-true low high x e =
@@ -54,7 +55,8 @@ date-true n e = within-true 20000101 20991231 n (and-eq-true-iff _ _ .0 e .0)
 pub ranges : (top : ℕ) (l : Leg) → inRange top l ≡ true → Ranges top l
 unfolding inRange
 ranges top l e =
-    let p10 = and-eq-true-iff _ _ .0 e in
+    let p11 = and-eq-true-iff _ _ .0 e in
+    let p10 = and-eq-true-iff _ _ .0 (p11 .0) in
     let p9 = and-eq-true-iff _ _ .0 (p10 .0) in
     let p8 = and-eq-true-iff _ _ .0 (p9 .0) in
     let p7 = and-eq-true-iff _ _ .0 (p8 .0) in
@@ -76,6 +78,7 @@ ranges top l e =
       expiry = date-true (l .expiry) (p8 .1);
       contracts = within-true 1 100000 (l .contracts .0) (p9 .1);
       settlement = within-true 0 2 (l .settlement) (p10 .1) .1;
+      paid = within-true 0 1 (l .paid) (p11 .1) .1;
     }
 
 pub good-ranges : (top : ℕ) (xs : List ℕ) → goodLeg top xs ≡ true → Ranges top (legOf xs)

@@ -5,7 +5,7 @@ use mathlib.Core.List.{List}
 use Prim.Native.Nat.{ℕ}
 use Rattle.records.specs.Bytes.{leAt}
 use Rattle.records.specs.Chunks.{chunkAt}
-use Rattle.records.specs.Legs.{legOf, legBytes, unitsOf, plusUnits, plusContracts, lessContracts, withContracts}
+use Rattle.records.specs.Legs.{legOf, legBytes, unitsOf, plusUnits, plusContracts, lessContracts, withContracts, withPaid}
 use Rattle.records.specs.Claims.{claimOf}
 use Rattle.records.specs.Lines.{sameLine, sameLineSide}
 use Rattle.records.specs.Order.{firstOf}
@@ -45,6 +45,9 @@ less-unique a b r s = one-outcome
 
 with-contracts-unique : (l : Leg) (c : Contracts) (r s : Leg) → r ≡ withContracts l c → s ≡ withContracts l c → r ≡ s
 with-contracts-unique l c r s = one-outcome
+
+with-paid-unique : (l : Leg) (mark : ℕ) (r s : Leg) → r ≡ withPaid l mark → s ≡ withPaid l mark → r ≡ s
+with-paid-unique l mark r s = one-outcome
 
 leg-bytes-unique : (l : Leg) (r s : List ℕ) → r ≡ legBytes l → s ≡ legBytes l → r ≡ s
 leg-bytes-unique l r s = one-outcome

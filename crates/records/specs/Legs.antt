@@ -29,6 +29,7 @@ legFields xs =
       expiry = leAt xs 16 4;
       contracts = contractsFrom (leAt xs 20 4);
       settlement = leAt xs 24 1;
+      paid = leAt xs 25 1;
     }
 
 -- the fields of a part of at least 32 bytes; those of a shorter one are all zero, as of no bytes
@@ -45,8 +46,8 @@ legBytes l =
     ++ leBytes (l .strike) 4
     ++ leBytes (l .expiry) 4
     ++ leBytes (l .contracts .0) 4
-    ++ (l .settlement ∷ [])
-    ++ replicate 7 0
+    ++ (l .settlement ∷ l .paid ∷ [])
+    ++ replicate 6 0
 
 -- each field's range; the group is at most `top`
 unfoldable pub inRange : ℕ → Leg → Bool
@@ -62,10 +63,11 @@ inRange top l =
     && realDate (l .expiry)
     && within 1 100000 (l .contracts .0)
     && within 0 2 (l .settlement)
+    && within 0 1 (l .paid)
 
--- 32 bytes, each field in its range, bytes 25 to 31 zero
+-- 32 bytes, each field in its range, bytes 26 to 31 zero
 unfoldable pub goodLeg : ℕ → List ℕ → Bool
-goodLeg top xs = eqb (length xs) 32 && (inRange top (legOf xs) && zeroIn xs 25 31)
+goodLeg top xs = eqb (length xs) 32 && (inRange top (legOf xs) && zeroIn xs 26 31)
 
 -- ---- what a leg's fields mean
 
@@ -87,6 +89,10 @@ isEuropean l = eqb (l .style) 2
 -- 'stated as cash'
 abbrev pub isCash : Leg → Bool
 isCash l = eqb (l .settlement) 1
+
+-- 'paid mark, 0 or 1'
+abbrev pub isPaid : Leg → Bool
+isPaid l = eqb (l .paid) 1
 
 -- ---- contracts and units
 
@@ -127,4 +133,23 @@ withContracts l c =
       expiry = l .expiry;
       contracts = c;
       settlement = l .settlement;
+      paid = l .paid;
+    }
+
+-- the same leg with another paid mark
+unfoldable pub withPaid : Leg → ℕ → Leg
+withPaid l mark =
+    record {
+      group = l .group;
+      side = l .side;
+      right = l .right;
+      style = l .style;
+      market = l .market;
+      size = l .size;
+      underlying = l .underlying;
+      strike = l .strike;
+      expiry = l .expiry;
+      contracts = l .contracts;
+      settlement = l .settlement;
+      paid = mark;
     }

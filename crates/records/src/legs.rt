@@ -3,7 +3,7 @@ ghost use mathlib.Core.Path.{_≡_};
 ghost use Prim.Native.Nat.{_≤_};
 ghost use lib.ListN.{length};
 ghost use Rattle.records.specs.Chunks.{chunkAt};
-ghost use Rattle.records.specs.Legs.{legFields, legOf, legBytes, withContracts, inRange, goodLeg};
+ghost use Rattle.records.specs.Legs.{legFields, legOf, legBytes, withContracts, withPaid, inRange, goodLeg};
 use crate::counts::Contracts;
 use crate::dates::real_date;
 use crate::fields::u8_in;
@@ -29,6 +29,9 @@ pub const EUROPEAN: u8 = 2;
 // 'settlement': 0 not stated, 1 cash, 2 physical
 pub const CASH: u8 = 1;
 
+// 'paid mark': 0 or 1
+pub const PAID: u8 = 1;
+
 pub struct Leg {
     pub group: u16,
     // LONG or SHORT
@@ -49,6 +52,8 @@ pub struct Leg {
     pub contracts: Contracts,
     // CASH, or 2 for physical, or 0 where it is not stated
     pub settlement: u8,
+    // the paid mark: PAID or 0
+    pub paid: u8,
 }
 
 impl Leg {
@@ -57,6 +62,13 @@ impl Leg {
         ensures { λ r. ⌜ r ≡ withContracts self contracts ⌝ }
     {
         Leg { contracts, ..self }
+    }
+
+    // The same leg with another paid mark.
+    pub fn with_paid(self, paid: u8) -> Leg
+        ensures { λ r. ⌜ r ≡ withPaid self paid ⌝ }
+    {
+        Leg { paid, ..self }
     }
 }
 
@@ -76,6 +88,7 @@ fn leg_fields(part: &[u8]) -> Leg
         expiry: u32_in(part, 16),
         contracts: Contracts(u32_in(part, 20)),
         settlement: u8_in(part, 24),
+        paid: u8_in(part, 25),
     }
 }
 
@@ -100,6 +113,7 @@ pub fn leg_at(table: &[u8], i: usize) -> Leg
         expiry: 0,
         contracts: Contracts(0),
         settlement: 0,
+        paid: 0,
     }
 }
 
@@ -133,7 +147,7 @@ pub fn leg_bytes(leg: Leg) -> [u8; 32]
         (leg.contracts.0 / 256 / 256 % 256) as u8,
         (leg.contracts.0 / 256 / 256 / 256 % 256) as u8,
         leg.settlement,
-        0,
+        leg.paid,
         0,
         0,
         0,
@@ -157,10 +171,11 @@ fn in_range(top: u16, leg: Leg) -> bool
         & real_date(leg.expiry)
         & is_within(1, 100000, leg.contracts.number())
         & is_within(0, 2, leg.settlement as u32)
+        & is_within(0, 1, leg.paid as u32)
 }
 
 // Whether the part is a leg record with each field in its range and a group of at most `top`. The filler is zero
-// just where the number of the last eight bytes is their first.
+// just where the number of the last eight bytes is that of their first two.
 pub(crate) fn good_leg(top: u16, part: &[u8]) -> bool
     ensures { λ r. ⌜ r ≡ goodLeg top (now (part .entry)) ⌝ }
 {
@@ -168,5 +183,5 @@ pub(crate) fn good_leg(top: u16, part: &[u8]) -> bool
         return false;
     }
     let leg = leg_fields(part);
-    in_range(top, leg) & (u64_in(part, 24) == leg.settlement as u64)
+    in_range(top, leg) & (u64_in(part, 24) == u16_in(part, 24) as u64)
 }

@@ -17,7 +17,7 @@ use Rattle.sheets.specs.Verdicts.{verdictOf}
 use Rattle.verdicts.specs.FileVerdicts.{fileVerdict}
 use Rattle.verdicts.specs.TableText.{tableText}
 use Rattle.usm_c.specs.Answers.{dueWords, verdictWords, writingWords, tableWords}
-use Rattle.usm_c.specs.Outcomes.{marginsWords, marginsLeft, worksheetWords, strikesLeft, netsLeft, readWords, tableLeft, originLeft, writeAs, outLeft, movedLeft, playWords, resultLeft, indicesLeft, numbersLeft, fileLine}
+use Rattle.usm_c.specs.Outcomes.{marginsWords, marginsLeft, worksheetWords, strikesLeft, netsLeft, readWords, tableLeft, originLeft, writeAs, outLeft, movedLeft, playWords, resultLeft, indicesLeft, numbersLeft, fileLine, markWords, placementLeft}
 
 -- ---- calls that leave an answer only
 
@@ -78,6 +78,13 @@ module _ (from : Form) (to : Origin) (file out : List ℕ) where
 
   moved-left-unique : (a b : List ℕ) → a ≡ movedLeft from to file out → b ≡ movedLeft from to file out → a ≡ b
   moved-left-unique a b = one-outcome
+
+module _ (placement : List ℕ) where
+  mark-paid-unique : (a b : List ℕ) → a ≡ markWords placement → b ≡ markWords placement → a ≡ b
+  mark-paid-unique a b = one-outcome
+
+  placement-left-unique : (a b : List ℕ) → a ≡ placementLeft placement → b ≡ placementLeft placement → a ≡ b
+  placement-left-unique a b = one-outcome
 
 module _ (h f d i m : List ℕ) where
   play-fills-unique : (a b : List ℕ) → a ≡ playWords h f d i m → b ≡ playWords h f d i m → a ≡ b

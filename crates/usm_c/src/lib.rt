@@ -15,7 +15,7 @@ ghost use Rattle.sheets.specs.Verdicts.{verdictOf};
 ghost use Rattle.verdicts.specs.FileVerdicts.{fileVerdict};
 ghost use Rattle.verdicts.specs.TableText.{tableText};
 ghost use Rattle.usm_c.specs.Answers.{dueWords, verdictWords, writingWords, tableWords};
-ghost use Rattle.usm_c.specs.Outcomes.{marginsWords, marginsLeft, worksheetWords, strikesLeft, netsLeft, readWords, tableLeft, originLeft, writeAs, outLeft, movedLeft, playWords, resultLeft, indicesLeft, numbersLeft, fileLine};
+ghost use Rattle.usm_c.specs.Outcomes.{marginsWords, marginsLeft, worksheetWords, strikesLeft, netsLeft, readWords, tableLeft, originLeft, writeAs, outLeft, movedLeft, playWords, resultLeft, indicesLeft, numbersLeft, fileLine, markWords, placementLeft};
 
 mod origins;
 mod words;
@@ -26,6 +26,7 @@ use verdicts::LINE_BYTES;
 use verdicts::TABLE_BYTES;
 use words::due_words;
 use words::listed_words;
+use words::marked_words;
 use words::played_words;
 use words::reading_words;
 use words::table_words;
@@ -92,6 +93,15 @@ pub extern "C" fn usm_check_sheet(
     ensures { λ _. ⌜ now (answer .exit) ≡ verdictWords (verdictOf (now (holdings .entry)) (now (placement .entry)) (now (claims .entry))) ⌝ }
 {
     *answer = verdict_words(sheets::check_sheet(holdings, placement, claims));
+}
+
+// Sets the paid mark on every unplaced long of a placement, in place: what an old sheet goes through.
+#[no_mangle]
+pub extern "C" fn usm_mark_paid(placement: &mut [u8], answer: &mut [u64; 4])
+    ensures { λ _. ⌜ now (answer .exit) ≡ markWords (now (placement .entry)) ⌝ }
+    ensures { λ _. ⌜ now (placement .exit) ≡ placementLeft (now (placement .entry)) ⌝ }
+{
+    *answer = marked_words(sheets::mark_paid(placement));
 }
 
 // The verdict on a sheet file.

@@ -1,12 +1,13 @@
 // The four words of each kind of answer.
 ghost use mathlib.Core.Path.{_≡_};
-ghost use Rattle.usm_c.specs.Answers.{doneWords, refusedWords, countedWords, dueWords, listedWords, verdictWords, readingWords, writingWords, playedWords, tableWords, DueMills, VerdictMills};
+ghost use Rattle.usm_c.specs.Answers.{doneWords, refusedWords, countedWords, dueWords, listedWords, verdictWords, readingWords, writingWords, markedWords, playedWords, tableWords, DueMills, VerdictMills};
 use blocks::Reading;
 use blocks::Writing;
 use fills::Played;
 use records::Counted;
 use records::Kind;
 use records::Refusal;
+use sheets::Marked;
 use sheets::Verdict;
 use spreads::Due;
 use spreads::Listed;
@@ -81,6 +82,15 @@ pub(crate) fn writing_words(writing: Writing) -> [u64; 4]
     match writing {
         Writing::Wrote(n) => done(n as u64, 0, 0),
         Writing::Refused(refusal) => refused(refusal),
+    }
+}
+
+pub(crate) fn marked_words(marked: Marked) -> [u64; 4]
+    ensures { λ r. ⌜ r ≡ markedWords marked ⌝ }
+{
+    match marked {
+        Marked::Marks(n) => done(n as u64, 0, 0),
+        Marked::Refused(refusal) => refused(refusal),
     }
 }
 

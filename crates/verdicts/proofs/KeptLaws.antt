@@ -41,10 +41,10 @@ module _ (h p c : List ℕ) (kept : Kept h p c) where
     unfolding groupChecks
     kept-answered =
         first-then (tableChecks Placement p) (groupRule (k + 1) (legsOf p)) kept-checked
-        ∙ spread-to-no-refusal (k + 1) (legsOf p) (kept .rule .spreads (k + 1) (omega arith) (omega (arith, length-claims c)))
+        ∙ spread-to-no-refusal (k + 1) (legsOf p) (kept .rule .old .spreads (k + 1) (omega arith) (omega (arith, length-claims c)))
 
     pub kept-margin : (claim : Claim) → claim ≡ claimOf (chunkAt 32 c k) → claim .margin ≡ marginOf (groupIn p (k + 1))
-    kept-margin claim e = sym (claim-at c k low claim e) ∙ kept .rule .claims (k + 1) (omega arith) (omega (arith, length-claims c))
+    kept-margin claim e = sym (claim-at c k low claim e) ∙ kept .rule .old .claims (k + 1) (omega arith) (omega (arith, length-claims c))
 
     -- there is room for the group behind those before it
     pub kept-room : length (shownText (shownIn k (legsOf p))) + length (groupText (shownOf (k + 1) (groupIn p (k + 1)))) ≤ 8608

@@ -68,7 +68,7 @@ table-total file n amount e =
       shown-total p n,
       ap (λ (m : ℕ). total m (λ g. marginOf (groupOf g p))) (k .2),
       total-claims c,
-      total-ext (length c) (claimFor c) (λ g. marginOf (groupOf g p)) (k .1 .rule .claims),
+      total-ext (length c) (claimFor c) (λ g. marginOf (groupOf g p)) (k .1 .rule .old .claims),
     ))
 
 pub table-margins : TableMargins

@@ -55,9 +55,9 @@ impl Ledger {
         }
     }
 
-    /// One record for each line and side.
+    /// One record for each line and side, with no mark.
     fn records(&self) -> impl Iterator<Item = [u8; RECORD_BYTES]> + '_ {
-        self.order.iter().map(|row| Leg { contracts: self.held(row), ..*row }.to_bytes())
+        self.order.iter().map(|row| Leg { contracts: self.held(row), paid: false, ..*row }.to_bytes())
     }
 }
 

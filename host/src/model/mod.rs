@@ -13,7 +13,7 @@ mod table;
 mod tables;
 
 use crate::form::{Form, Origin};
-use crate::records::{Table, RECORD_BYTES};
+use crate::records::{Leg, Side, Table, RECORD_BYTES};
 use crate::refusal::{Accepted, RecordCounts, Refusal};
 use tables::Tables;
 
@@ -58,6 +58,19 @@ pub fn worksheet(placement: &[u8], g: u64, strikes: &mut [u32], nets: &mut [i64]
         nets[index] = row.net;
     }
     Ok(rows.len())
+}
+
+/// Sets the paid mark on every unplaced long; answers how many had none.
+pub fn mark_paid(placement: &mut [u8]) -> Result<usize, Refusal> {
+    let legs = tables::placement(placement)?;
+    let mut marks = 0;
+    for (record, leg) in placement.chunks_exact_mut(RECORD_BYTES).zip(legs) {
+        if leg.group == 0 && leg.side == Side::Long && !leg.paid {
+            record.copy_from_slice(&Leg { paid: true, ..leg }.to_bytes());
+            marks += 1;
+        }
+    }
+    Ok(marks)
 }
 
 /// The verdict on a sheet given as three tables.

@@ -50,9 +50,10 @@ fn check_sums(holdings: &[Leg], placement: &[Leg]) -> Result<(), Refusal> {
     }
 }
 
-/// Refusal 15: an unplaced long is free, an unplaced short is not.
+/// Refusal 15: an unplaced long is free if it is marked as paid (document 02, [8]), an unplaced short never.
 fn check_shorts_are_placed(placement: &[Leg]) -> Result<(), Refusal> {
-    match placement.iter().position(|leg| leg.side == Side::Short && leg.group == 0) {
+    let free = |leg: &Leg| leg.side == Side::Long && leg.paid;
+    match placement.iter().position(|leg| leg.group == 0 && !free(leg)) {
         Some(place) => refuse(15, Table::Placement, place),
         None => Ok(()),
     }

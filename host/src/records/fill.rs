@@ -20,7 +20,7 @@ pub enum Action {
 pub struct Fill {
     /// Open or close.
     pub action: Action,
-    /// Line, side and contracts; its group is 0, as in holdings.
+    /// Line, side and contracts; its group is 0, as in holdings, and it has no paid mark.
     pub leg: Leg,
 }
 
@@ -37,7 +37,7 @@ impl Fill {
         let action = choice(record[ACTION_AT], Action::Open, Action::Close)?;
         let mut held = *record;
         held[ACTION_AT] = 0;
-        Leg::from_bytes(&held).filter(|leg| leg.group == 0).map(|leg| Fill { action, leg })
+        Leg::from_bytes(&held).filter(|leg| leg.group == 0 && !leg.paid).map(|leg| Fill { action, leg })
     }
 }
 
@@ -52,6 +52,8 @@ mod tests {
             let fill = Fill { action, leg: in_group(0, leg("S50p")) };
             assert_eq!(Fill::from_bytes(&fill.to_bytes()), Some(fill));
             assert_eq!(Fill::from_bytes(&Fill { leg: leg("S50p"), ..fill }.to_bytes()), None);
+            let paid = Leg { paid: true, ..fill.leg };
+            assert_eq!(Fill::from_bytes(&Fill { leg: paid, ..fill }.to_bytes()), None);
         }
         assert_eq!(Fill::from_bytes(&in_group(0, leg("S50p")).to_bytes()), None, "a fill has an action");
     }

@@ -79,6 +79,8 @@ pub struct Leg {
     pub contracts: u32,
     /// Cash or physical, or not stated.
     pub settlement: Settlement,
+    /// Whether it is marked as paid, as an unplaced long has to be; no part of line or series.
+    pub paid: bool,
 }
 
 /// Type, strike, expiry and unit size.
@@ -144,6 +146,7 @@ impl Leg {
         record[16..20].copy_from_slice(&self.expiry.to_le_bytes());
         record[20..24].copy_from_slice(&self.contracts.to_le_bytes());
         record[24] = self.settlement as u8;
+        record[25] = self.paid.into();
         record
     }
 
@@ -164,6 +167,11 @@ impl Leg {
                 0 => Settlement::NotStated,
                 settlement => choice(settlement, Settlement::Cash, Settlement::Physical)?,
             },
+            paid: match record[25] {
+                0 => false,
+                1 => true,
+                _ => return None,
+            },
         };
         let in_range = usize::from(leg.group) <= MOST_CLAIMS
             && (1..=GREATEST_UNIT_SIZE).contains(&leg.unit_size)
@@ -171,7 +179,7 @@ impl Leg {
             && (1..=GREATEST_STRIKE).contains(&leg.strike)
             && is_expiry(leg.expiry)
             && (1..=MOST_CONTRACTS).contains(&leg.contracts)
-            && record[25..].iter().all(|&byte| byte == 0);
+            && record[26..].iter().all(|&byte| byte == 0);
         in_range.then_some(leg)
     }
 }
@@ -203,10 +211,14 @@ mod tests {
             expiry: 20991231,
             contracts: 100_000,
             settlement: Settlement::Physical,
+            paid: false,
         };
         for settlement in [Settlement::NotStated, Settlement::Cash, Settlement::Physical] {
             let leg = Leg { settlement, ..leg };
             assert_eq!(Leg::from_bytes(&leg.to_bytes()), Some(leg));
+            let paid = Leg { paid: true, ..leg };
+            assert_eq!(Leg::from_bytes(&paid.to_bytes()), Some(paid));
+            assert_eq!(paid.line(), leg.line());
         }
         for too_much in [Leg { group: 33, ..leg }, Leg { unit_size: 1_001, ..leg }, Leg { strike: 0, ..leg }]
         {

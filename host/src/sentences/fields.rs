@@ -83,7 +83,8 @@ fn legs(group: Range) -> Vec<Range> {
         range("settlement", SETTLEMENT, "0 (not stated), 1 (cash) or 2 (physical)", |settlement| {
             settlement <= 2
         }),
-        range("filler (bytes 25 to 31)", FILLER, "0", |filler| filler == 0),
+        range("paid mark", PAID, "0 or 1", |mark| mark <= 1),
+        range("filler (bytes 26 to 31)", FILLER, "0", |filler| filler == 0),
     ]
 }
 

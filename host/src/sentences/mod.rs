@@ -55,7 +55,7 @@ pub fn of_file(file: &[u8], refusal: &Refusal) -> String {
 /// ```
 pub fn of_sheet(sheet: &Sheet, refusal: &Refusal) -> String {
     let sentence = match refusal.reason() {
-        Some(reason @ (Reason::GroupsMisnumbered | Reason::ContractsDiffer | Reason::ShortNotPlaced)) => {
+        Some(reason @ (Reason::GroupsMisnumbered | Reason::ContractsDiffer | Reason::NotPlaced)) => {
             rules::sentence(sheet, refusal, reason)
         }
         Some(Reason::ClaimNotMargin) => rules::claim_sentence(sheet, refusal.place),

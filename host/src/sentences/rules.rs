@@ -34,12 +34,13 @@ pub fn sentence(sheet: &Sheet, refusal: &Refusal, reason: Reason) -> Option<Stri
                 contracts(sheet, leg)
             ))
         }
-        (Reason::ShortNotPlaced, 2) => {
-            let text = placed_text(sheet.placement.get(place)?);
-            Some(format!(
-                "the {at} record of the placement (`{text}`) is a short in no group; \
-                 only longs may be unplaced"
-            ))
+        (Reason::NotPlaced, 2) => {
+            let leg = sheet.placement.get(place)?;
+            let why = match leg.side {
+                Side::Short => "is a short in no group; only longs may be unplaced",
+                Side::Long => "is a long in no group that is not marked as `paid`",
+            };
+            Some(format!("the {at} record of the placement (`{}`) {why}", placed_text(leg)))
         }
         _ => None,
     }

@@ -29,7 +29,9 @@ pub fn short(refusal: &Refusal, reason: Reason) -> String {
         Reason::ContractsDiffer => {
             format!("{record}: holdings and placement differ in the contracts of its line and side")
         }
-        Reason::ShortNotPlaced => format!("{record} is a short that is not placed"),
+        Reason::NotPlaced => {
+            format!("{record} is a short, or a long without the paid mark, that is not placed")
+        }
         Reason::NoRoom if refusal.table == 0 => {
             format!("no room: {} bytes or entries are needed", refusal.place)
         }

@@ -3,7 +3,7 @@
 use super::names::{name_of, ACTIONS, MARKETS, SETTLEMENTS, SIDES, STYLES, TYPES};
 use super::show::leg_words;
 use crate::fields::{
-    get, Field, CONTRACTS, EXPIRY, GROUP, MARKET, SETTLEMENT, SIDE, STRIKE, STYLE, TYPE, UNDERLYING,
+    get, Field, CONTRACTS, EXPIRY, GROUP, MARKET, PAID, SETTLEMENT, SIDE, STRIKE, STYLE, TYPE, UNDERLYING,
     UNIT_SIZE,
 };
 use crate::records::{Fill, Leg, Market, Style, RECORD_BYTES};
@@ -72,8 +72,13 @@ pub fn raw_text(record: &[u8; RECORD_BYTES]) -> String {
         0 => String::new(),
         _ => format!(" {}", term("settlement", SETTLEMENT, SETTLEMENTS.map(|(name, _)| name))),
     };
+    let paid = match number(PAID) {
+        0 => String::new(),
+        1 => String::from(" paid"),
+        mark => format!(" paid mark {mark}"),
+    };
     format!(
-        "{place}{} {} {} {} {} unit {} underlying {} {} {}{settlement}",
+        "{place}{} {} {} {} {} unit {} underlying {} {} {}{settlement}{paid}",
         term("side", SIDE, SIDES.map(|(name, _)| name)),
         number(CONTRACTS),
         term("type", TYPE, TYPES.map(|(name, _)| name)),
@@ -102,6 +107,9 @@ mod tests {
         let cash = Leg { settlement: Settlement::Cash, ..leg };
         assert_eq!(leg_text(&cash), format!("{} cash", leg_text(&leg)));
         assert_eq!(raw_text(&cash.to_bytes()), placed_text(&cash));
+        let paid = Leg { paid: true, ..cash };
+        assert_eq!(leg_text(&paid), format!("{} cash paid", leg_text(&leg)));
+        assert_eq!(raw_text(&paid.to_bytes()), placed_text(&paid));
         assert_eq!(series_text(&leg), "put 50.000 2011-05-21 unit 100");
     }
 
@@ -110,7 +118,7 @@ mod tests {
         assert_eq!(
             raw_text(&[0xFF; RECORD_BYTES]),
             "group 65535 side 255 4294967295 type 255 4294967.295 429496-72-95 unit 65535 \
-             underlying 4294967295 style 255 market 255 settlement 255"
+             underlying 4294967295 style 255 market 255 settlement 255 paid mark 255"
         );
     }
 }

@@ -36,13 +36,13 @@ A sheet is three sections, each named on a line of its own, with one record a li
 
 A leg reads: side (long, short), contracts, type (call, put), strike in dollars with up
 to three decimals, expiry, `unit` and the unit size, `underlying` and its number, style
-(american, european), market (listed, otc), and settlement (cash, physical) unless it is
-not stated. In the placement `group` and its number, or the word `unplaced`, come first.
-A claim is the group and its margin in mills (1/1000 dollar), as the checker prints
-them. A section may be left out or empty; each stands at most once, in this order.
-Before them a line `account` and its number may stand: then the sheet file is of the new
-form, which says it in each block. Blanks are free, `#` starts a comment, empty lines do
-not count.
+(american, european), market (listed, otc), settlement (cash, physical) unless it is not
+stated, and the word `paid` if it is marked so, as an unplaced long has to be. In the
+placement `group` and its number, or the word `unplaced`, come first. A claim is the
+group and its margin in mills (1/1000 dollar), as the checker prints them. A section may
+be left out or empty; each stands at most once, in this order. Before them a line
+`account` and its number may stand: then the sheet file is of the new form, which says
+it in each block. Blanks are free, `#` starts a comment, empty lines do not count.
 ";
 
 /// The text format of a day's fills.

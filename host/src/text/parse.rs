@@ -165,7 +165,7 @@ mod tests {
         );
         assert_eq!(
             error_of(&format!("holdings\n{LEG} again")),
-            "line 2, column 65: expected `cash` or `physical`, or the end of the line, found `again`"
+            "line 2, column 65: expected `cash` or `physical`, or `paid`, or the end of the line, found `again`"
         );
         assert_eq!(
             error_of("claims\nclaim 1 1000.00"),
@@ -211,6 +211,18 @@ mod tests {
         assert_eq!(stated, [Settlement::Cash, Settlement::Physical, Settlement::NotStated]);
         assert_eq!(
             error_of(&format!("holdings\n{LEG} cash cash")),
+            "line 2, column 70: expected `paid`, or the end of the line, found `cash`"
+        );
+    }
+
+    #[test]
+    fn a_leg_may_be_marked_as_paid() {
+        let text = format!("holdings\n{LEG} paid\nplacement\nunplaced {LEG} cash paid\ngroup 1 {LEG}");
+        let sheet = parse(&text).unwrap();
+        assert!(sheet.holdings[0].paid && sheet.placement[0].paid && !sheet.placement[1].paid);
+        assert_eq!(sheet.placement[0].settlement, Settlement::Cash);
+        assert_eq!(
+            error_of(&format!("holdings\n{LEG} paid cash")),
             "line 2, column 70: expected the end of the line, found `cash`"
         );
     }

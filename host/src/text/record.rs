@@ -9,18 +9,18 @@ use crate::records::{
 };
 
 pub fn holding(words: &mut Words) -> Result<Leg, TextError> {
-    leg(0, ", or the section `placement` or `claims`", words)
+    leg(0, ", or the section `placement` or `claims`", true, words)
 }
 
 pub fn placed_leg(words: &mut Words) -> Result<Leg, TextError> {
     let placed = words.choose([("group", true), ("unplaced", false)], ", or the section `claims`")?;
     let group = if placed { group(words)? } else { 0 };
-    leg(group, "", words)
+    leg(group, "", true, words)
 }
 
 pub fn fill(words: &mut Words) -> Result<Fill, TextError> {
     let action = words.choose(ACTIONS, "")?;
-    leg(0, "", words).map(|leg| Fill { action, leg })
+    leg(0, "", false, words).map(|leg| Fill { action, leg })
 }
 
 pub fn claim(words: &mut Words) -> Result<Claim, TextError> {
@@ -34,8 +34,8 @@ fn group(words: &mut Words) -> Result<u16, TextError> {
     words.number("a group", 1..=MOST_CLAIMS as u16)
 }
 
-/// A leg from its side on; `or_else` tells what else the line might have started with.
-fn leg(group: u16, or_else: &str, words: &mut Words) -> Result<Leg, TextError> {
+/// A leg from its side on; `or_else` tells what else the line might have started with. A fill has no paid mark.
+fn leg(group: u16, or_else: &str, may_be_paid: bool, words: &mut Words) -> Result<Leg, TextError> {
     let side = words.choose(SIDES, or_else)?;
     let contracts = words.number("contracts", 1..=MOST_CONTRACTS)?;
     let option_type = words.choose(TYPES, "")?;
@@ -49,6 +49,7 @@ fn leg(group: u16, or_else: &str, words: &mut Words) -> Result<Leg, TextError> {
     let style = words.choose(STYLES, "")?;
     let market = words.choose(MARKETS, "")?;
     let settlement = words.optional(SETTLEMENTS).unwrap_or(Settlement::NotStated);
+    let paid = may_be_paid && words.flag("paid");
     Ok(Leg {
         group,
         side,
@@ -61,6 +62,7 @@ fn leg(group: u16, or_else: &str, words: &mut Words) -> Result<Leg, TextError> {
         expiry,
         contracts,
         settlement,
+        paid,
     })
 }
 

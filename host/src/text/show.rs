@@ -51,8 +51,9 @@ pub fn leg_words(leg: &Leg) -> String {
         Settlement::NotStated => String::new(),
         settlement => format!(" {}", name_of(settlement, SETTLEMENTS)),
     };
+    let paid = if leg.paid { " paid" } else { "" };
     format!(
-        "{:<5} {} {:<4} {} {} unit {} underlying {} {} {}{settlement}",
+        "{:<5} {} {:<4} {} {} unit {} underlying {} {} {}{settlement}{paid}",
         name_of(leg.side, SIDES),
         leg.contracts,
         name_of(leg.option_type, TYPES),

@@ -39,6 +39,7 @@ impl<'a> Words<'a> {
 
     pub fn skip(&mut self) {
         self.at += 1;
+        self.might_be.clear();
     }
 
     pub fn error(&self, expected: &str) -> TextError {
@@ -83,6 +84,17 @@ impl<'a> Words<'a> {
             None => self.might_be += &format!("`{}` or `{}`, or ", names[0].0, names[1].0),
         }
         found.map(|(_, value)| *value)
+    }
+
+    /// Whether this word stands here.
+    pub fn flag(&mut self, name: &str) -> bool {
+        let stands = self.peek() == Some(name);
+        if stands {
+            self.skip();
+        } else {
+            self.might_be += &format!("`{name}`, or ");
+        }
+        stands
     }
 
     /// Just this word.

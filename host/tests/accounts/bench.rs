@@ -1,6 +1,6 @@
 //! Rows P1 to P12, and the lines a sheet prints.
 
-use usm::accounts::{in_group, leg, placed, times};
+use usm::accounts::{in_group, leg, paid, placed, times};
 use usm::both::BOTH;
 use usm::{Leg, Sheet};
 
@@ -104,5 +104,7 @@ fn a_claim_one_mill_short_is_16() {
 
 #[test]
 fn a_lone_unplaced_long_is_free() {
-    assert_line(&placed(&[in_group(0, leg("L50p"))], &[]), "ACCEPT 0 0");
+    assert_line(&placed(&[paid(leg("L50p"))], &[]), "ACCEPT 0 0");
+    // Since document 02, [8], not without the mark.
+    assert_line(&placed(&[in_group(0, leg("L50p"))], &[]), "REFUSE 15 2 0");
 }

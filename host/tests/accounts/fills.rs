@@ -2,7 +2,7 @@
 
 use usm::accounts::{in_group, leg, times};
 use usm::both::{Calls, BOTH};
-use usm::fields::{put, ACTION, CONTRACTS, GROUP, SETTLEMENT, SIDE};
+use usm::fields::{put, ACTION, CONTRACTS, GROUP, PAID, SETTLEMENT, SIDE};
 use usm::Action::{Close, Open};
 use usm::{fill_table, leg_table, Action, Fill, Leg, Refusal, Side, RECORD_BYTES};
 
@@ -166,6 +166,16 @@ fn repeats_are_added_into_the_first_such_record() {
 }
 
 #[test]
+fn what_comes_out_has_no_mark_touched_or_not() {
+    let marked = |leg: Leg| Leg { paid: true, ..leg };
+    let start = [marked(times(3, "L60c")), times(2, "S50c"), marked(leg("S50c")), marked(leg("L70p"))];
+    // Two marks of a line and side are one lot.
+    assert_day(&start, &[], &[times(3, "L60c"), times(3, "S50c"), leg("L70p")], &[]);
+    let day = [fill(Close, leg("L60c")), fill(Close, times(3, "S50c")), fill(Open, leg("L90c"))];
+    assert_day(&start, &day, &[times(2, "L60c"), leg("L70p"), leg("L90c")], &[]);
+}
+
+#[test]
 fn a_start_past_100_000_of_one_is_19_at_the_record_that_passes_it() {
     let start = [times(60_000, "L60c"), leg("S50c"), times(40_000, "L60c"), leg("L60c"), leg("L60c")];
     assert_refused(&leg_table(&start.map(held)), &[], (19, 1, 3));
@@ -190,7 +200,8 @@ fn a_bad_field_of_a_fill_is_4_for_that_fill() {
         (ACTION, 0),
         (ACTION, 3),
         (SETTLEMENT, 3),
-        ((25, 1), 1),
+        (PAID, 1),
+        (PAID, 2),
         ((27, 1), 1),
         ((31, 1), 255),
     ] {

@@ -1,6 +1,6 @@
 //! Values just inside and just outside the limits, and the readings of open points.
 
-use usm::accounts::{fullest, in_group, leg, placed};
+use usm::accounts::{fullest, in_group, leg, paid, placed};
 use usm::block::LONGEST_FILE;
 use usm::both::BOTH;
 use usm::{leg_table, Accepted, Leg, Origin, Refusal, Sheet, Side, Table};
@@ -9,10 +9,10 @@ use crate::{assert_line, assert_margin, assert_verdict, refusal};
 
 const FREE: Accepted = Accepted { groups: 0, total: 0 };
 
-/// The verdict on a sheet of this one long, not placed.
+/// The verdict on a sheet of this one long, not placed and paid.
 #[track_caller]
 fn assert_lone(long: Leg, expected: Result<Accepted, Refusal>) {
-    assert_verdict(&placed(&[in_group(0, long)], &[]), expected);
+    assert_verdict(&placed(&[paid(long)], &[]), expected);
 }
 
 #[test]
@@ -34,7 +34,7 @@ fn contracts_end_at_100_000() {
 
 #[test]
 fn a_table_ends_at_256_records() {
-    let table = |records| leg_table(&vec![in_group(0, leg("L50p")); records]);
+    let table = |records| leg_table(&vec![paid(leg("L50p")); records]);
     let (full, over) = (table(256), table(257));
     for calls in &BOTH {
         for which in [Table::Holdings, Table::Placement] {

@@ -1,6 +1,6 @@
 //! "Errors that look right": each test fails for a program that makes the error.
 
-use usm::accounts::{in_group, leg, placed, times};
+use usm::accounts::{in_group, leg, paid, placed, times};
 use usm::{Accepted, Leg, Market, Settlement, Sheet, Style};
 
 use crate::{assert_margin, assert_verdict, refusal};
@@ -79,8 +79,7 @@ fn split_lines_are_ordinary() {
 
 #[test]
 fn an_unplaced_short_is_refused_though_an_unplaced_long_is_free() {
-    let with_unplaced =
-        |notation| placed(&[leg("L60c"), leg("S50c"), in_group(0, leg(notation))], &[1_000_000]);
+    let with_unplaced = |notation| placed(&[leg("L60c"), leg("S50c"), paid(leg(notation))], &[1_000_000]);
     assert_verdict(&with_unplaced("S50p"), refusal(15, 2, 2));
     assert_verdict(&with_unplaced("L50p"), Ok(Accepted { groups: 1, total: 1_000_000 }));
 }

@@ -1,7 +1,7 @@
 //! The calls that the script's commands make, and what is printed of each answer.
 
 use usm::both::Calls;
-use usm::fields::{get, CONTRACTS, SIDE, STRIKE, TYPE};
+use usm::fields::{get, put, records, CONTRACTS, PAID, SIDE, STRIKE, TYPE};
 use usm::lent::Lent;
 use usm::{Form, Origin, PlayCounts, Refusal, Table, LONGEST_FILE, RECORD_BYTES};
 
@@ -37,6 +37,19 @@ pub fn margin(calls: &Calls, placement: &[u8], g: u64) -> String {
 
 pub fn cash(calls: &Calls, placement: &[u8], g: u64) -> String {
     told((calls.cash)(placement, g), |mills| mills.to_string())
+}
+
+/// The placement is marked where it stands; whether all but its marks stayed, and all of it on a refusal.
+pub fn mark(calls: &Calls, memory: &mut Memory) -> String {
+    let before = memory.placement.clone();
+    let answer = (calls.mark_paid)(&mut memory.placement);
+    let mut stayed = memory.placement.clone();
+    if answer.is_ok() {
+        for record in 0..records(&before) {
+            put(&mut stayed, record, PAID, get(&before, record, PAID));
+        }
+    }
+    format!("{} {}", told(answer, |marks| marks.to_string()), kept(stayed == before))
 }
 
 pub fn margins(calls: &Calls, placement: &[u8], n: u64, room: usize) -> String {
@@ -148,7 +161,8 @@ pub fn read(calls: &Calls, memory: &Memory, rooms: [usize; 3]) -> String {
 }
 
 /// What comes out becomes the holdings, and no fills are left; a refusal leaves both. Of the rows the last
-/// are printed, as side, type, strike and contracts, and of the refused fills the first.
+/// are printed, as side, type, strike and contracts, with the word paid where there is a mark, and of the refused
+/// fills the first.
 pub fn play(calls: &Calls, memory: &mut Memory, rooms: [usize; 3]) -> String {
     let (mut result, mut indices, mut numbers) =
         (Lent::<u8>::of_length(rooms[0]), Lent::<u32>::of_length(rooms[1]), Lent::<u8>::of_length(rooms[2]));
@@ -163,7 +177,8 @@ pub fn play(calls: &Calls, memory: &mut Memory, rooms: [usize; 3]) -> String {
         memory.fills.clear();
         let row = |record| {
             let fields = [SIDE, TYPE, STRIKE, CONTRACTS].map(|field| get(&memory.holdings, record, field));
-            fields.map(|number| format!(" {number}")).concat() + ","
+            let paid = if get(&memory.holdings, record, PAID) == 0 { "" } else { " paid" };
+            fields.map(|number| format!(" {number}")).concat() + paid + ","
         };
         let rows: String = (records.saturating_sub(MOST_PRINTED)..records).map(row).collect();
         let listed = indices.slice()[..refused].iter().zip(&numbers.slice()[..refused]).take(MOST_PRINTED);

@@ -48,7 +48,7 @@ fn what_cannot_be_played_is_told_with_its_line() {
     assert_eq!(error("byte f 0 256\n"), "line 1: `byte f 0 256`: `256` is no number that fits here");
     assert_eq!(error("check f\n"), "line 1: `check f`: `f` is none of h, p and c");
     assert_eq!(error("cut x 3\n"), "line 1: `cut x 3`: `x` is none of h, p, c, d and f");
-    assert_eq!(error("d 1\n"), "line 1: `d 1`: a record of 11 to 12 numbers, not of 1");
+    assert_eq!(error("d 1\n"), "line 1: `d 1`: a record of 11 to 13 numbers, not of 1");
     assert_eq!(error("fill f 2\n"), "line 1: `fill f 2`: `f` is none of h, p, c and d");
     assert_eq!(error("clear\nc 1\n"), "line 2: `c 1`: a record of 2 numbers, not of 1");
     assert_eq!(error("c 65536 0\n"), "line 1: `c 65536 0`: 65536 does not fit in 2 bytes");

@@ -10,7 +10,7 @@ const FILL: [Field; 11] =
     [GROUP, SIDE, TYPE, STYLE, MARKET, UNIT_SIZE, UNDERLYING, STRIKE, EXPIRY, CONTRACTS, ACTION];
 const CLAIM: [Field; 2] = [GROUP, CLAIM_MARGIN];
 /// The fields of a leg or a fill whose numbers may follow.
-const MAY_FOLLOW: [Field; 1] = [SETTLEMENT];
+const MAY_FOLLOW: [Field; 2] = [SETTLEMENT, PAID];
 
 #[derive(Default)]
 pub struct Memory {

@@ -66,6 +66,7 @@ fn ask(calls: &Calls, memory: &mut Memory, words: &[&str]) -> Result<String, Str
         ["check", table] => check(calls, memory, table)?,
         ["margin", g] => answers::margin(calls, &memory.placement, number(g)?),
         ["cash", g] => answers::cash(calls, &memory.placement, number(g)?),
+        ["mark"] => answers::mark(calls, memory),
         ["margins", n, room] => answers::margins(calls, &memory.placement, number(n)?, number(room)?),
         ["worksheet", g, strikes, nets] => {
             answers::worksheet(calls, &memory.placement, number(g)?, [number(strikes)?, number(nets)?])

@@ -54,6 +54,7 @@ fn fields_stand_where_rust_has_them() {
         ("USM_LEG_EXPIRY", fields::EXPIRY),
         ("USM_LEG_CONTRACTS", fields::CONTRACTS),
         ("USM_LEG_SETTLEMENT", fields::SETTLEMENT),
+        ("USM_LEG_PAID", fields::PAID),
         ("USM_LEG_FILLER", fields::FILLER),
         ("USM_FILL_ACTION", fields::ACTION),
         ("USM_CLAIM_GROUP", fields::GROUP),
@@ -134,7 +135,7 @@ fn calls_named_in(source: &str) -> BTreeSet<&str> {
 #[test]
 fn the_header_and_the_rust_declarations_name_the_same_calls() {
     let header = calls_named_in(HEADER);
-    assert_eq!(header.len(), 14, "{header:?}");
+    assert_eq!(header.len(), 15, "{header:?}");
     assert_eq!(header, calls_named_in(include_str!("../../src/ffi.rs")));
 }
 

@@ -26,6 +26,9 @@ moved to the mark USM2 with account 4711, and back: the same
 read back 4 + 4 + 2 records, the same; form 1, account 0
 after the day 4 records, 1 fills refused
 fill 1: refusal 18
+usm_check_sheet: refusal 15, table 2, place 0
+1 long marked as paid, byte 25 is 1
+usm_check_sheet: accepted, groups 0, total 0 mills
 usm_margin: refusal 6, table 2, place 3
 usm_check_sheet: refusal 16, table 3, place 2
 usm_write_file: refusal 1, table 0, place 0
@@ -54,7 +57,7 @@ fn the_c_example_prints_what_it_says() {
 
 #[test]
 fn empty_slices_may_be_null() {
-    let printed = "148 calls with empty slices, 0 wrong\n";
+    let printed = "149 calls with empty slices, 0 wrong\n";
     assert_prints(&run(&c_compiler(), C, "empty.c"), printed);
     if let Some(compiler) = cxx_compiler() {
         assert_prints(&run(&compiler, CXX, "empty.c"), printed);

@@ -135,7 +135,7 @@ fn every_line_has_its_sentence() {
         (
             "REFUSE 15 2 22",
             "refused, number 15, table 2 (placement), place 22: \
-             record 22 (the 23rd) of the placement is a short that is not placed",
+             record 22 (the 23rd) of the placement is not placed: it is a short, or a long without the paid mark",
         ),
         (
             "REFUSE 16 3 32",

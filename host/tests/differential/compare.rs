@@ -72,6 +72,17 @@ pub fn cash(case: &dyn Display, placement: &[u8], g: u64) -> u64 {
     same(case, &format!("usm_cash {g}"), answer, numbers(&expected, |cash| [cash as u64, 0, 0]))
 }
 
+/// The table is changed where it stands.
+pub fn mark_paid(case: &dyn Display, placement: &[u8]) -> u64 {
+    let mut marked = Lent::of_length(placement.len());
+    marked.slice().copy_from_slice(placement);
+    let mut expected_marked = marked.clone();
+    let answer = answer_of(|answer| ffi::mark_paid(marked.slice(), answer));
+    let expected = model::mark_paid(expected_marked.slice());
+    same_buffer(case, "usm_mark_paid", &marked, &expected_marked, placement.len());
+    same(case, "usm_mark_paid", answer, numbers(&expected, |marks| [marks as u64, 0, 0]))
+}
+
 pub fn margins(case: &dyn Display, placement: &[u8], n: u64, room: usize) -> u64 {
     let call = format!("usm_margins {n}, room {room}");
     let mut out = Lent::of_length(room);

@@ -45,9 +45,12 @@ fn small_world(random: &mut Random) -> (Vec<u8>, Vec<u8>) {
     let largest = random.pick(&[1, 2, 3, 40_000, MOST_CONTRACTS]);
     let lot = |random: &mut Random| {
         let side = random.pick(&[Side::Long, Side::Short]);
-        Leg { side, contracts: random.between(1, largest), ..random.pick(&lines) }
+        // A fill that is marked as paid is refused.
+        let paid = random.one_in(20);
+        Leg { side, contracts: random.between(1, largest), paid, ..random.pick(&lines) }
     };
-    let holdings: Vec<Leg> = (0..random.below(7)).map(|_| lot(random)).collect();
+    let marked = |random: &mut Random| Leg { paid: random.one_in(3), ..lot(random) };
+    let holdings: Vec<Leg> = (0..random.below(7)).map(|_| marked(random)).collect();
     let most = random.pick(&[2, 8, 30]);
     let count = random.below(most);
     let fills: Vec<Fill> = (0..count)

@@ -91,6 +91,8 @@ pub fn a_day_of_no_fills_changes_nothing(case: &dyn Display, day: &Day) {
     if let Ok(counts) = play_fills(&day.holdings, &day.fills, &mut result, &mut indices, &mut numbers) {
         result.truncate(counts.records * RECORD_BYTES);
         assert_eq!(check_table(Table::Holdings, &result), Ok(counts.records), "{case}");
+        let unmarked = result.chunks_exact(RECORD_BYTES).all(|record| record[25] == 0);
+        assert!(unmarked, "{case}: what comes out has no mark");
         // Side and line are all but contracts: bytes 0 to 19, and the settlement.
         let lots: BTreeSet<(&[u8], u8)> =
             result.chunks_exact(RECORD_BYTES).map(|record| (&record[..20], record[24])).collect();
@@ -100,6 +102,25 @@ pub fn a_day_of_no_fills_changes_nothing(case: &dyn Display, day: &Day) {
         assert_eq!(no_fills, Ok(PlayCounts { records: counts.records, refused: 0 }), "{case}");
         assert!(again[..result.len()] == result, "{case}: no fills change the holdings");
     }
+}
+
+/// A sheet from before the paid mark, with some of its marks or none, is accepted after the pass with the same
+/// groups and total; a second pass changes nothing more.
+pub fn the_pass_takes_old_sheets(case: &dyn Display, random: &mut Random, sheet: &Sheet) {
+    let accepted = sheet.check();
+    let mut old = sheet.clone();
+    let mut unmarked = 0;
+    for leg in old.placement.iter_mut().filter(|leg| leg.group == 0) {
+        leg.paid = random.one_in(4);
+        unmarked += usize::from(!leg.paid);
+    }
+    if unmarked > 0 {
+        assert_eq!(old.check().map_err(|refusal| refusal.number), Err(15), "{case}: unpaid and unplaced");
+    }
+    assert_eq!(old.mark_paid(), Ok(unmarked), "{case}: the pass");
+    assert_eq!(old.check(), accepted, "{case}: the verdict after the pass");
+    let marked = old.clone();
+    assert_eq!((old.mark_paid(), &old), (Ok(0), &marked), "{case}: the second pass");
 }
 
 /// The cash that a group requires covers it at each of its strikes, and nothing less does.

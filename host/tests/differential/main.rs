@@ -40,6 +40,7 @@ fn valid_sheets() {
         laws::margins_cover_every_price(case, random, &sheet);
         laws::margins_are_reached(case, &sheet);
         laws::moves_go_round(case, &tables, files::origin(random));
+        laws::the_pass_takes_old_sheets(case, random, &sheet);
         try_tables(case, random, &tables, tally);
     });
 }

@@ -1,6 +1,6 @@
 //! Sheets that document 01 accepts, of all sizes and shapes.
 
-use usm::accounts::in_group;
+use usm::accounts::{in_group, paid};
 use usm::{leg_table, model, Claim, Leg, Sheet, Side, MOST_CLAIMS, MOST_CONTRACTS, MOST_LEGS};
 
 use crate::random::Random;
@@ -48,7 +48,7 @@ pub fn claims_of(placement: &[Leg]) -> Vec<Claim> {
     (1..).zip(margins).map(|(group, margin)| Claim { group, margin }).collect()
 }
 
-/// Longs that are not placed: lines of their own, or more of a placed line.
+/// Longs that are not placed, and paid: lines of their own, or more of a placed line.
 fn unplaced_longs(random: &mut Random, placement: &mut Vec<Leg>) {
     while placement.len() < MOST_LEGS && random.one_in(3) {
         let leg = if !placement.is_empty() && random.one_in(2) {
@@ -57,7 +57,7 @@ fn unplaced_longs(random: &mut Random, placement: &mut Vec<Leg>) {
             let [strike, ..] = spreads::strikes(random);
             Leg { strike, ..spreads::terms(random) }
         };
-        placement.push(Leg { group: 0, side: Side::Long, ..leg });
+        placement.push(paid(Leg { side: Side::Long, ..leg }));
     }
 }
 
@@ -86,7 +86,8 @@ fn holdings_of(random: &mut Random, placement: &[Leg]) -> Vec<Leg> {
         };
         match holdings.iter_mut().find(same) {
             Some(held) if merge => held.contracts += leg.contracts,
-            _ => holdings.push(in_group(0, *leg)),
+            // Marks in holdings are free.
+            _ => holdings.push(Leg { paid: random.one_in(3), ..in_group(0, *leg) }),
         }
     }
     split_records(random, &mut holdings);

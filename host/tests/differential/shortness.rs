@@ -1,6 +1,6 @@
 //! Buffers of every shortness, and every single damaged byte: tried one by one.
 
-use usm::accounts::{in_group, placed, times};
+use usm::accounts::{in_group, paid, placed, times};
 use usm::block::BLOCK_BYTES;
 use usm::both::BOTH;
 use usm::{Form, Origin, Refusal, Sheet, Tables};
@@ -23,7 +23,7 @@ fn three_groups() -> Tables {
         in_group(3, times(2, "L50c")),
         in_group(3, times(4, "S60c")),
         in_group(3, times(2, "L70c")),
-        in_group(0, times(2, "L90c")),
+        paid(times(2, "L90c")),
     ];
     Sheet { claims: claims_of(&placement), ..placed(&placement, &[]) }.tables()
 }

@@ -63,6 +63,7 @@ pub fn terms(random: &mut Random) -> Leg {
             _ => MOST_CONTRACTS / 2,
         },
         settlement: settlement(random),
+        paid: random.one_in(4),
     }
 }
 

@@ -28,6 +28,7 @@ pub fn try_tables(case: &Case, random: &mut Random, tables: &Tables, tally: &mut
     let (strikes_room, nets_room) = (random.room(strikes), random.room(strikes));
     tally.count(compare::worksheet(case, &tables.placement, g, strikes_room, nets_room));
 
+    tally.count(compare::mark_paid(case, &tables.placement));
     tally.count(compare::check_sheet(case, tables));
     let origin = files::origin(random);
     let file = files::of(tables, origin);

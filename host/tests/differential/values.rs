@@ -3,7 +3,7 @@
 use usm::fields::*;
 
 /// Values past the ranges of a leg's fields, just past or far; group 1 is so in holdings.
-pub const BAD_IN_LEGS: [(Field, u64); 30] = [
+pub const BAD_IN_LEGS: [(Field, u64); 32] = [
     (GROUP, 33),
     (GROUP, 0x0100),
     (GROUP, 1),
@@ -32,8 +32,10 @@ pub const BAD_IN_LEGS: [(Field, u64); 30] = [
     (CONTRACTS, 100_001),
     (SETTLEMENT, 3),
     (SETTLEMENT, 255),
+    (PAID, 2),
+    (PAID, 255),
     (FILLER, 1),
-    (FILLER, 1 << 48),
+    (FILLER, 1 << 40),
 ];
 
 /// Values past the ranges of a claim's fields.
@@ -51,7 +53,7 @@ pub const BAD_IN_CLAIMS: [(Field, u64); 10] = [
 ];
 
 /// Values at the ends of the ranges of a leg's fields, which are good.
-pub const AT_THE_LIMIT: [(Field, u64); 8] = [
+pub const AT_THE_LIMIT: [(Field, u64); 9] = [
     (CONTRACTS, 100_000),
     (UNIT_SIZE, 1_000),
     (STRIKE, 99_999_999),
@@ -60,4 +62,5 @@ pub const AT_THE_LIMIT: [(Field, u64); 8] = [
     (EXPIRY, 20120229),
     (UNDERLYING, 0xFFFF_FFFF),
     (SETTLEMENT, 2),
+    (PAID, 1),
 ];

@@ -38,6 +38,7 @@ pub fn tiny_world(random: &mut Random) -> Tables {
         expiry: if random.one_in(6) { 20110618 } else { 20110521 },
         contracts: random.between(1, 2),
         settlement: if random.one_in(8) { Settlement::Cash } else { Settlement::NotStated },
+        paid: !random.one_in(4),
     };
     let mut placement: Vec<Leg> = (0..random.below(9)).map(|_| leg(random)).collect();
     if random.one_in(2) {

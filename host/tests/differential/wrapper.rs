@@ -14,6 +14,7 @@ struct Answers {
     check_table: Result<usize, Refusal>,
     margin: Result<i64, Refusal>,
     cash: Result<i64, Refusal>,
+    mark_paid: (Result<usize, Refusal>, Vec<u8>),
     margins: (Result<usize, Refusal>, [i64; MOST_CLAIMS]),
     worksheet: (Result<usize, Refusal>, [u32; 8], [i64; 8]),
     check_sheet: Result<Accepted, Refusal>,
@@ -33,10 +34,12 @@ fn answers(calls: Calls, tables: &Tables, file: &[u8], g: u64) -> Answers {
     let [mut held, mut placed, mut claimed] = [[1; 200]; 3];
     let [mut out, mut new, mut old] = [vec![1; LONGEST_FILE], vec![1; LONGEST_FILE], vec![1; LONGEST_FILE]];
     let origin = Origin::of_account(g);
+    let mut marked = placement.clone();
     Answers {
         check_table: (calls.check_table)(Table::Placement, placement),
         margin: (calls.margin)(placement, g),
         cash: (calls.cash)(placement, g),
+        mark_paid: ((calls.mark_paid)(&mut marked), marked),
         margins: ((calls.margins)(placement, g, &mut margins), margins),
         worksheet: ((calls.worksheet)(placement, g, &mut strikes, &mut nets), strikes, nets),
         check_sheet: (calls.check_sheet)(holdings, placement, claims),

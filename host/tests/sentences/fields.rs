@@ -36,8 +36,14 @@ pub fn legs() -> Vec<Case> {
         with("expiry", HOLDINGS, 0, &[(EXPIRY, 20110229)]),
         with("contracts", HOLDINGS, 0, &[(CONTRACTS, 100_001)]),
         with("settlement", HOLDINGS, 0, &[(SETTLEMENT, 3)]),
-        with("filler", HOLDINGS, 0, &[(FILLER, 1 << 48)]),
-        with("filler beside a settlement", HOLDINGS, 0, &[(SETTLEMENT, 2), (FILLER, 1)]),
+        with("paid mark", PLACEMENT, 0, &[(PAID, 2)]),
+        with("filler", HOLDINGS, 0, &[(FILLER, 1 << 40)]),
+        with(
+            "filler beside a settlement and a mark",
+            HOLDINGS,
+            0,
+            &[(SETTLEMENT, 2), (PAID, 1), (FILLER, 1)],
+        ),
         with("two fields of a placed leg", PLACEMENT, 2, &[(SIDE, 9), (STRIKE, 0)]),
     ]
 }

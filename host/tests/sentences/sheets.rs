@@ -1,6 +1,6 @@
 //! Refusals 5 to 16: groups that are no spreads, and sheets that break a rule.
 
-use usm::accounts::{in_group, leg, placed, times};
+use usm::accounts::{in_group, leg, paid, placed, times};
 use usm::{Claim, Leg, Market, Settlement, Sheet, Style};
 
 use crate::Case;
@@ -88,6 +88,10 @@ pub fn rules() -> Vec<Case> {
         case("placed and not held", held_less),
         case("held as another settlement", other_settlement),
         case("an unplaced short", unplaced),
+        case(
+            "an unplaced long that is not paid",
+            placed(&[paid(leg("L90c")), in_group(0, leg("L50p"))], &[]),
+        ),
         case("a claim a mill short", Sheet { claims, ..sheet }),
         case("a European long box that claims nothing", placed(&european_box(), &[0])),
     ]

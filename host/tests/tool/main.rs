@@ -11,6 +11,7 @@ mod groups;
 mod json;
 mod make;
 mod moves;
+mod paid;
 mod play;
 mod script;
 

@@ -1,6 +1,6 @@
 //! Sheets that are made to be slow, or to be refused where the search for a refusal ends first or last.
 
-use usm::accounts::{in_group, leg};
+use usm::accounts::{in_group, leg, paid};
 use usm::{Leg, Sheet, Side, MOST_LEGS};
 
 use crate::inputs::claimed;
@@ -12,16 +12,14 @@ const BUCKETS: u32 = 509;
 /// A later expiry than document 01's.
 const LATER: u32 = 20110618;
 
-/// Unplaced longs, held as they stand in the placement: nearly all the time goes into lines.
+/// Unplaced longs that are paid, held as they stand in the placement: nearly all the time goes into lines.
 fn unplaced(lines: Vec<Leg>) -> Sheet {
     claimed(Sheet { holdings: lines.clone(), placement: lines, ..Sheet::default() }, 0)
 }
 
 /// As many longs as a table takes, at strikes `step` mills apart.
 fn longs(lowest: u32, step: u32) -> Vec<Leg> {
-    (0..MOST_LEGS as u32)
-        .map(|index| in_group(0, Leg { strike: lowest + step * index, ..leg("L50c") }))
-        .collect()
+    (0..MOST_LEGS as u32).map(|index| paid(Leg { strike: lowest + step * index, ..leg("L50c") })).collect()
 }
 
 pub fn all_different() -> Sheet {

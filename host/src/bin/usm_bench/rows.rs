@@ -114,6 +114,18 @@ fn write_file(name: &'static str, sheet: &Sheet) -> Row {
     })
 }
 
+/// The table is copied anew for each call, so that there are marks to set.
+fn mark_paid(name: &'static str, legs: &[Leg]) -> Row {
+    row(name, |calls| {
+        let placement = leg_table(legs);
+        let mut marked = placement.clone();
+        move || {
+            marked.copy_from_slice(&placement);
+            folded((calls.mark_paid)(&mut marked), |marks| marks as u64)
+        }
+    })
+}
+
 fn move_to_new(name: &'static str, file: &[u8]) -> Row {
     row(name, |calls| {
         let file = file.to_vec();
@@ -221,6 +233,7 @@ fn ordinary() -> Vec<Row> {
         write_file("write file, 39 blocks, new form", &new),
         move_to_new("move 39 blocks to the new form", &file_of(&full)),
         move_to_old("move 39 blocks to the old form", &file_of(&new)),
+        mark_paid("mark 256 unplaced longs as paid", &held(MOST_LEGS)),
         play_fills("play 60 fills over 60 records", &held(60), &day(60, 60)),
         play_fills("play 1,024 fills over 256 records", &held(MOST_LEGS), &day(MOST_LEGS, MOST_FILLS)),
     ]

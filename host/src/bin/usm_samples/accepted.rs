@@ -1,6 +1,6 @@
 //! Samples that are accepted.
 
-use usm::accounts::{in_group, leg, placed, times};
+use usm::accounts::{in_group, leg, paid, placed, times};
 use usm::{Leg, Settlement, Sheet, Style};
 
 use crate::list::{iron_condor, sample, Sample, ACCOUNT};
@@ -87,8 +87,8 @@ pub fn sheets() -> Vec<Sample> {
         ),
         sample(
             "lone-unplaced-long",
-            "A long that no group takes is free: its value is never below zero.",
-            placed(&[in_group(0, leg("L50p"))], &[]),
+            "A long that no group takes is free once it is paid: its value is never below zero.",
+            placed(&[paid(leg("L50p"))], &[]),
         ),
     ]
 }

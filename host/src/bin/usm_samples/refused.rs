@@ -74,6 +74,11 @@ pub fn sheets() -> Vec<Sample> {
             },
         ),
         sample(
+            "unpaid-unplaced-long",
+            "A long that no group takes, and that is not marked as paid; `sheet mark-paid` marks it.",
+            placed(&[in_group(0, leg("L50p"))], &[]),
+        ),
+        sample(
             "unplaced-short",
             "A short that no group takes.",
             placed(&[leg("L60c"), leg("S50c"), in_group(0, leg("S50p"))], &[1_000_000]),

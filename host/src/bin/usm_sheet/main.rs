@@ -11,6 +11,7 @@ mod json;
 mod make;
 mod moves;
 mod output;
+mod paid;
 mod play;
 mod plot;
 
@@ -32,6 +33,8 @@ usage:
   sheet to-new FILE ACCOUNT OUT   move a sheet file to the new form, with the number of its
                                   account in each block [--force]
   sheet to-old FILE OUT           move it back to the old form [--force]
+  sheet mark-paid FILE OUT        take a sheet file from before the paid mark through the pass
+                                  that marks every unplaced long as paid [--force]
   sheet play HOLDINGS FILLS OUT   play a text of fills over a text of holdings, and write what
                                   is held then as the text OUT [--force]
   sheet help                      tell about the text formats too (-h, --help)
@@ -69,6 +72,7 @@ fn run(words: Vec<OsString>) -> Result<ExitCode, String> {
         ("worksheet", [file, group], false, false) => groups::worksheet(file, group),
         ("to-new", [file, account, out], force, false) => moves::to_new(file, account, out, force),
         ("to-old", [file, out], force, false) => moves::to_old(file, out, force),
+        ("mark-paid", [file, out], force, false) => paid::mark_paid(file, out, force),
         ("play", [holdings, fills, out], force, false) => play::play(holdings, fills, out, force),
         ("help", [], false, false) => help(),
         _ => Err(not_understood(String::from("the command was not understood"))),

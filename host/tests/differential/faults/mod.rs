@@ -10,7 +10,7 @@ use crate::random::Random;
 /// Makes one fault. Some choices leave a small sheet as it is, and some changes are
 /// harmless: the model knows.
 pub fn one(random: &mut Random, tables: &mut Tables) {
-    match random.below(13) {
+    match random.below(14) {
         0 => records::wrong_size(random, tables),
         1 | 2 => records::out_of_range(random, tables),
         3 => rules::numbering(random, tables),
@@ -20,6 +20,7 @@ pub fn one(random: &mut Random, tables: &mut Tables) {
         9 => records::whole_record(random, tables),
         10 => rules::unplace(random, tables),
         11 => rules::other_claim(random, tables),
+        12 => rules::other_mark(random, tables),
         _ => records::at_the_limit(random, tables),
     }
 }

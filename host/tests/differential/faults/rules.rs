@@ -1,6 +1,6 @@
 //! Faults that the rules of a spread or of a sheet find: each field stays in its range.
 
-use usm::accounts::{in_group, leg};
+use usm::accounts::{in_group, leg, paid};
 use usm::fields::*;
 use usm::{Claim, Tables, GREATEST_AMOUNT, RECORD_BYTES};
 
@@ -93,13 +93,28 @@ pub fn doubled_series(random: &mut Random, tables: &mut Tables) {
     }
 }
 
-/// Refusal 15: a short in both tables that no group takes.
+/// Refusal 15: a short, or a long that is not paid, in both tables that no group takes; or a paid long, which
+/// may stand there.
 pub fn unplace(random: &mut Random, tables: &mut Tables) {
-    let short = in_group(0, leg("S60p")).to_bytes();
+    let [short, long] = ["S60p", "L60p"].map(|notation| in_group(0, leg(notation)));
+    let unplaced = random.pick(&[short, paid(short), long, paid(long)]).to_bytes();
     let at = random.below(records(&tables.placement) + 1) * RECORD_BYTES;
-    tables.placement.splice(at..at, short);
+    tables.placement.splice(at..at, unplaced);
     if !random.one_in(4) {
-        tables.holdings.extend_from_slice(&short);
+        tables.holdings.extend_from_slice(&unplaced);
+    }
+}
+
+/// Refusal 15: the mark of a record of the placement says something else, or its group is taken from it.
+pub fn other_mark(random: &mut Random, tables: &mut Tables) {
+    let count = records(&tables.placement);
+    if count > 0 {
+        let record = random.below(count);
+        let mark = get(&tables.placement, record, PAID);
+        put(&mut tables.placement, record, PAID, 1 - mark.min(1));
+        if random.one_in(2) {
+            (0..count).for_each(|record| put(&mut tables.placement, record, PAID, random.below(2) as u64));
+        }
     }
 }
 

@@ -18,15 +18,16 @@ returns-2 c =
     let f = c .before .before .before in
     let part = now (f .before .before .before .args .part) in
     rw (
+      c .u16-in .ensures,
       c .before .u64-in .ensures,
       c .before .before .in-range .ensures,
       f .leg-fields .ensures,
       eq-eqb _ _ (f .before .if1 .left),
       le-leb 32 (length part) (omega (arith, f .before .if1 .left)),
-      zero-in part 25 31 (omega arith) (omega (arith, f .before .if1 .left)),
-      high-zero part 1 7 24 (omega arith),
+      zero-in part 26 31 (omega arith) (omega (arith, f .before .if1 .left)),
+      high-zero part 2 6 24 (omega arith),
     )
 
 pub good-leg-spec : {M : Type 1} → statement M
 good-leg-spec =
-    tie.close (tie.spec returns (λ c κs. search needs) (λ c κs. search needs) (λ c κs. search needs) (λ c. search needs) returns-2)
+    tie.close (tie.spec returns (λ c κs. search needs) (λ c κs. search needs) (λ c κs. search needs) (λ c κs. search needs) (λ c. search needs) returns-2)

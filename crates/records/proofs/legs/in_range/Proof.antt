@@ -6,11 +6,12 @@ use Rattle.records.proofs.legs.in_range.Tie as tie
 returns : tie.Need-returns
 unfolding inRange
 returns c =
-    let d = c .before .before in
+    let d = c .before .before .before .before in
     let w = d .before .before .before .before .before in
     let v = w .before .before .before .before .before .before in
     rw (
-      c .is-within10 .ensures,
+      c .is-within11 .ensures,
+      c .before .before .is-within10 .ensures,
       d .is-within9 .ensures,
       d .before .number .ensures,
       d .before .before .real-date .ensures,
@@ -44,6 +45,8 @@ in-range-spec =
     (λ c κs. search needs)
     (λ c κs. search needs)
     (λ c κs. search needs)
+    (λ c κs. search needs)
+    (λ c. search needs)
     (λ c κs. search needs)
     (λ c. search needs)
     (λ c κs. search needs)

@@ -6,10 +6,11 @@ use Rattle.records.proofs.legs.leg_fields.Tie as tie
 returns : tie.Need-returns
 unfolding legFields
 returns c =
-    let d = c .before in
+    let d = c .before .before in
     let b = d .before .before .before .before in
     rw (
-      c .u8-in5 .ensures,
+      c .u8-in6 .ensures,
+      c .before .u8-in5 .ensures,
       d .u32-in4 .ensures,
       d .before .u32-in3 .ensures,
       d .before .before .u32-in2 .ensures,
@@ -26,6 +27,7 @@ pub leg-fields-spec : {M : Type 1} → statement M
 leg-fields-spec =
     tie.close
     (tie.spec
+    (λ c κs. search needs)
     (λ c κs. search needs)
     (λ c κs. search needs)
     (λ c κs. search needs)

@@ -1,0 +1,57 @@
+-- 'Give a pass that sets the mark on every unplaced long; old sheets go through it.'
+use mathlib.Core.Bool.{cond, _&&_}
+use mathlib.Core.List.{List, _++_}
+use Prim.Native.Nat.{ℕ, zero, suc, _/_}
+use lib.Dec.{eqb}
+use lib.ListN.{length, set, take, drop}
+use Rattle.records.specs.Legs.{legOf, isLong, withPaid}
+use Rattle.records.specs.Lists.{only, sumOf}
+use Rattle.records.specs.Order.{firstOf}
+use Rattle.records.specs.Tables.{tableChecks, legsOf}
+use Rattle.records.specs.declared.legs.Leg.{Leg}
+use Rattle.records.specs.declared.refusals.Fault.{Fault}
+use Rattle.records.specs.declared.refusals.Fault.the-variants.{Nothing, Is}
+use Rattle.records.specs.declared.tables.Kind.the-variants.{Placement}
+use Rattle.sheets.specs.Sheets.{unpaidLong}
+use Rattle.sheets.specs.declared.marks.Marked.{Marked}
+use Rattle.sheets.specs.declared.marks.Marked.the-variants.{Marks, Refused}
+
+-- 'Byte 25 of a leg record becomes paid mark'
+abbrev pub paidAt : ℕ
+paidAt = 25
+
+-- an unplaced long that has no mark gets it; every other record stays, and every other byte of this one
+unfoldable pub markedRecord : List ℕ → List ℕ
+markedRecord r = cond (unpaidLong (legOf r)) (set r paidAt 1) r
+
+-- the first n records of a table each so
+unfoldable pub markedFirst : ℕ → List ℕ → List ℕ
+markedFirst zero xs = xs
+markedFirst (suc n) xs = markedRecord (take 32 xs) ++ markedFirst n (drop 32 xs)
+
+abbrev pub markedPlacement : List ℕ → List ℕ
+markedPlacement p = markedFirst (length p / 32) p
+
+-- what that makes of a leg: every unplaced long has the mark
+abbrev pub markedLeg : Leg → Leg
+markedLeg l = cond (isLong l && eqb (l .group) 0) (withPaid l 1) l
+
+-- how many marks that are
+abbrev pub markOn : Leg → ℕ
+markOn l = only (unpaidLong l) 1
+
+unfoldable pub marksIn : List ℕ → ℕ
+marksIn p = sumOf markOn (legsOf p)
+
+-- 'the pass gives 1 and 4 and then changes nothing': the refusal, or how many marks were set
+abbrev pub markAnswer : Fault → ℕ → Marked
+markAnswer Nothing n = Marks n
+markAnswer (Is r) n = Refused r
+
+unfoldable pub markOf : List ℕ → Marked
+markOf p = markAnswer (firstOf (tableChecks Placement p)) (marksIn p)
+
+-- what the table holds then
+unfoldable pub markLeft : Marked → List ℕ → List ℕ
+markLeft (Marks n) p = markedPlacement p
+markLeft (Refused r) p = p

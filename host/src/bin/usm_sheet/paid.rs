@@ -1,0 +1,29 @@
+//! Sheets from before the paid mark, taken through the pass that sets it.
+
+use std::ffi::OsStr;
+use std::process::ExitCode;
+
+use usm::numbers::grouped;
+use usm::program::{self, shown};
+use usm::sentences;
+
+use crate::input::sheet;
+use crate::make::{same_file, write};
+
+/// Marks every unplaced long as paid; form, account and all else stay.
+pub fn mark_paid(name: &OsStr, out_name: &OsStr, force: bool) -> Result<ExitCode, String> {
+    let named = |what: String| format!("{}: {what}", shown(name));
+    if same_file(name, out_name) {
+        return Err(named(String::from("is marked; what comes out needs another name")));
+    }
+    let mut sheet = sheet(name)?;
+    let marks = sheet.mark_paid();
+    let file = marks.and_then(|marks| Ok((marks, sheet.to_file()?)));
+    let (marks, file) = file.map_err(|refusal| {
+        named(format!("refusal {}: {}", refusal.number, sentences::of_sheet(&sheet, &refusal)))
+    })?;
+    write(out_name, &file, force)?;
+    let longs = if marks == 1 { "unplaced long" } else { "unplaced longs" };
+    program::tell(&named(format!("{} {longs} marked as paid", grouped(marks))));
+    Ok(ExitCode::SUCCESS)
+}
