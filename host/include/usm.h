@@ -19,13 +19,14 @@
  *   Pointers    Slices pass as a pointer and a length. With length 0 the pointer is not looked
  *               at, and may be NULL: an empty table, or no room, is NULL and 0, or what an empty
  *               std::vector hands out. With any other length it points to so many entries,
- *               aligned as the type asks. `answer`, `origin`, `line` and `text` are never NULL. Buffers lent for
- *               writing may overlap neither each other nor an input nor `answer`.
+ *               aligned as the type asks. `answer`, `origin`, `line` and `text` are never NULL.
+ *               Buffers lent for writing may overlap neither each other nor an input nor `answer`.
  *   Inputs      There is no other condition. Any bytes, any lengths, any numbers are
  *               answered.
  *   answer      Exactly four numbers, always written in full:
  *                 success  { 0, ... }  the results, as told at each call
- *                 refusal  { number, table, place, 0 }, number 1 to 21
+ *                 refusal  { number, table, place, 0 }, number 1 to 21 but 18, which
+ *                          is only listed
  *               table: 0 none, 1 holdings, 2 placement, 3 claims, 4 fills.
  *   Buffers     On a refusal nothing lent is written but `answer`, and the `line` and `text` of
  *               the two calls that print. On success what lies past the output stays as it was.
@@ -40,8 +41,8 @@
  * What each call answers and leaves in what it is lent is proved; how pointers, threads and the
  * stack behave is tested, in C and in C++, on each build of the library.
  *
- * REFUSALS, in the order in which they are looked for, with table and place (blocks and records
- * count from 0, groups from 1)
+ * REFUSALS by number, with table and place (blocks and records count from 0, groups from 1). 1 to 16
+ * are looked for in this order, 20 after 3 in each block, 21 after 13; 17 and 19 as told at each call.
  *
  *    1  a table not whole records or over its limit; a file empty, not whole
  *       blocks or over 39; nothing to write                       0, 0
@@ -206,8 +207,8 @@ void usm_check_table(uint64_t kind, const uint8_t *table, size_t table_len, uint
 void usm_margin(const uint8_t *placement, size_t placement_len, uint64_t g, uint64_t *answer);
 
 /*
- * The cash that group g of a placement requires in a cash account: its margin, for a European long box too
- * without its half.
+ * The cash that group g of a placement requires in a cash account: the greatest of 0 and the losses at
+ * the strikes found in the group, also of a European long box, which so requires none.
  *   success  { 0, mills, 0, 0 }
  *   refusals as usm_margin; then 21, table 2, place g, unless all legs are European, all are stated as
  *            USM_CASH, and all have one expiry.

@@ -41,7 +41,8 @@ pub fn margin(placement: &[u8], g: u64) -> Result<i64, Refusal> {
 }
 
 /// The cash that group `g` requires in a cash account, in mills: 1, 4, 6 to 13, then 21 unless all its legs are
-/// European, stated as cash, and of one expiry. It is the margin, for a European long box too without its half.
+/// European, stated as cash, and of one expiry. It is the greatest of 0 and the group's
+/// losses, also of a European long box, which so requires none.
 ///
 /// ```
 /// use usm::{cash, Refusal};

@@ -1,4 +1,4 @@
-//! What a call answers: acceptance, counts, or the first refusal in document 01's order.
+//! What a call answers: acceptance, counts, or the first refusal in the order of documents 01 and 02.
 
 use std::error::Error;
 use std::fmt;
@@ -35,7 +35,7 @@ pub struct PlayCounts {
     pub refused: usize,
 }
 
-/// A refusal: the first that applies in the order of document 01.
+/// A refusal: the first that applies in the order of documents 01 and 02.
 ///
 /// Its `Display` is a sentence for people, in which blocks and records count as people count, from the
 /// 1st; [`crate::sentences`] says more where the file or the sheet is at hand. [`Refusal::line`] is what
@@ -56,7 +56,7 @@ impl Refusal {
         Refusal { number, table, place }
     }
 
-    /// The name of its number; none if document 01 has no such number.
+    /// The name of its number; none if documents 01 and 02 have no such number.
     pub fn reason(&self) -> Option<Reason> {
         Reason::of_number(self.number)
     }

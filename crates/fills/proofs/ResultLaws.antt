@@ -30,7 +30,7 @@ use Rattle.records.proofs.ChunkLaws.{records-append, length-rows}
 use Rattle.fills.specs.Fills.{isOpen, fillLeg}
 use Rattle.fills.specs.Rows.{heldOf, more, fewer, opened, closed, mergedInto, merged, bytesOf, unmarked, startingLegs}
 use Rattle.fills.specs.Played.{openNumber, numberOver, rowsAfter, playedOver, refusedOver}
-use Rattle.fills.specs.Calls.{tableChecks as playTableChecks, askPast, roomChecks, playChecks, rowsPlayed, refusedIn, answered, playOf, left, indicesOf, numbersOf}
+use Rattle.fills.specs.Calls.{startChecks, askPast, roomChecks, playChecks, rowsPlayed, refusedIn, answered, playOf, left, indicesOf, numbersOf}
 use Rattle.fills.specs.Ledger.{Apart, Filled}
 use Rattle.fills.specs.Demands.{CallStands, ResultSound, ResultUnpaid, ResultStays, Leaves, LeftBy, PlayLeaves}
 use Rattle.fills.specs.declared.calls.Played.{Played}
@@ -186,14 +186,14 @@ passed h f result indices numbers n k e = go (firstOf checks) refl e
     room = roomChecks (length f / 32) result indices numbers
 
     checks : List Check
-    checks = playTableChecks h f ++ (askPast [] 0 (startingLegs h) ++ room)
+    checks = startChecks h f ++ (askPast [] 0 (startingLegs h) ++ room)
 
     go : (v : Fault) → firstOf checks ≡ v → answered v (length (rowsPlayed h f)) (length (refusedIn h f)) ≡ Done n k → Passed h f × (n ≡ length (rowsPlayed h f))
     go Nothing q r =
         let p = clear checks q in (
           record {
-            tabled = tables-clear h f (unclear (playTableChecks h f) (pass-left (playTableChecks h f) (askPast [] 0 (startingLegs h) ++ room) p));
-            lots = pass-left (askPast [] 0 (startingLegs h)) room (pass-right (playTableChecks h f) (askPast [] 0 (startingLegs h) ++ room) p);
+            tabled = tables-clear h f (unclear (startChecks h f) (pass-left (startChecks h f) (askPast [] 0 (startingLegs h) ++ room) p));
+            lots = pass-left (askPast [] 0 (startingLegs h)) room (pass-right (startChecks h f) (askPast [] 0 (startingLegs h) ++ room) p);
           },
           cc,
         )
@@ -322,15 +322,15 @@ past-apart before (x ∷ xs) i a g = (
 
 -- a table of rows apart, played over by no fills, is refused nothing
 again-clear : (rows : List Leg) (room i j : ℕ) → Fine rows → Apart rows → 8192 ≤ room → firstOf (playChecks (bytesOf rows) [] room i j) ≡ Nothing
-unfolding playChecks playTableChecks fieldChecks roomChecks
+unfolding playChecks startChecks fieldChecks roomChecks
 again-clear rows room i j f a h =
     let w = whole-bytes rows f in
-    let fields : Pass (playTableChecks (bytesOf rows) []) =
+    let fields : Pass (startChecks (bytesOf rows) []) =
     (rw w, each-pass (goodRecord Holdings) 4 1 0 (recordsOf (bytesOf rows)) (records-good rows (f .good))) in
     let lots : Pass (askPast [] 0 (startingLegs (bytesOf rows))) = rw (starting-same rows f) (past-apart [] rows 0 a (f .good)) in
     let room-there : Pass (roomChecks 0 room i j) = (le-leb 8192 room h, (rw (le-leb 0 i (omega arith), le-leb 0 j (omega arith)), tt)) in
     unclear (playChecks (bytesOf rows) [] room i j)
-    (pass-both (playTableChecks (bytesOf rows) []) (askPast [] 0 (startingLegs (bytesOf rows)) ++ roomChecks 0 room i j) fields
+    (pass-both (startChecks (bytesOf rows) []) (askPast [] 0 (startingLegs (bytesOf rows)) ++ roomChecks 0 room i j) fields
     (pass-both (askPast [] 0 (startingLegs (bytesOf rows))) (roomChecks 0 room i j) lots room-there))
 
 again-done : (rows : List Leg) (room i j : ℕ) → Fine rows → Apart rows → 8192 ≤ room → playOf (bytesOf rows) [] room i j ≡ Done (length rows) 0

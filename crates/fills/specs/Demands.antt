@@ -1,4 +1,5 @@
--- What is demanded of the day's fills, of the definitions that the contract of `play` cites; each is proved in proofs/Demands.
+-- What is demanded of the day's fills, of the definitions that the contract of `play` cites; the proofs stand in
+-- proofs/LedgerLaws, BalanceLaws and ResultLaws.
 use mathlib.Core.Path.{_≡_}
 use mathlib.Core.List.{List, []}
 use Prim.Native.Nat.{ℕ, _+_, _*_, _≤_}

@@ -1,11 +1,11 @@
-// A refusal gives number, table (0 none, 1 holdings, 2 placement, 3 claims) and place.
+// A refusal gives number, table (0 none, 1 holdings, 2 placement, 3 claims, 4 the day's fills) and place.
 pub struct Refusal {
     pub number: u8,
     pub table: u8,
     pub place: usize,
 }
 
-// What a check finds: nothing to refuse, or the first refusal in document 01's order.
+// What a check finds: nothing to refuse, or the first refusal in the documents' order.
 pub enum Fault {
     Nothing,
     Is(Refusal),

@@ -1,5 +1,6 @@
 -- What is demanded of one group and of the calls about it, each statement under its sentence. The proofs stand in
--- proofs/Demands.antt. That margins cover every price, and that none smaller does, is said of sheets, in their own crate.
+-- proofs/Demands.antt. That margins cover every price, and that none smaller does, is said of sheets, in their own crate; of the
+-- cash required it is said here.
 use Prim.Native.Nat.{ℕ, _+_, _*_, _-_, _≤_, _<_}
 use mathlib.Core.Path.{_≡_}
 use mathlib.Core.Bool.{true, _||_}
