@@ -4,6 +4,7 @@ use std::fmt::Write;
 
 use super::errors::{TextError, TextErrors};
 use super::names::{name_of, ACTIONS};
+use super::parse::each_line;
 use super::record::fill;
 use super::show::leg_words;
 use super::words::Words;
@@ -28,18 +29,8 @@ struct Reading {
 /// ```
 pub fn parse_fills(text: &str) -> Result<Vec<Fill>, TextErrors> {
     let mut reading = Reading::default();
-    let mut errors = TextErrors::default();
-    let text = text.strip_prefix('\u{FEFF}').unwrap_or(text);
-    for (index, line) in text.lines().enumerate() {
-        if let Err(error) = reading.line(Words::of(index + 1, line)) {
-            errors.add(error);
-        }
-    }
-    if errors.listed().is_empty() {
-        Ok(reading.fills)
-    } else {
-        Err(errors)
-    }
+    each_line(text, |words| reading.line(words))?;
+    Ok(reading.fills)
 }
 
 impl Reading {

@@ -35,15 +35,24 @@ struct Reading {
 /// ```
 pub fn parse(text: &str) -> Result<Sheet, TextErrors> {
     let mut reading = Reading { section: Section::Start, told_of_start: false, sheet: Sheet::default() };
+    each_line(text, |words| reading.line(words))?;
+    Ok(reading.sheet)
+}
+
+/// Reads a text line by line: an error in one does not keep the others from being looked at.
+pub(super) fn each_line(
+    text: &str,
+    mut read: impl FnMut(Words) -> Result<(), TextError>,
+) -> Result<(), TextErrors> {
     let mut errors = TextErrors::default();
     let text = text.strip_prefix('\u{FEFF}').unwrap_or(text);
     for (index, line) in text.lines().enumerate() {
-        if let Err(error) = reading.line(Words::of(index + 1, line)) {
+        if let Err(error) = read(Words::of(index + 1, line)) {
             errors.add(error);
         }
     }
     if errors.listed().is_empty() {
-        Ok(reading.sheet)
+        Ok(())
     } else {
         Err(errors)
     }
