@@ -12,8 +12,8 @@ use std::process::{Command, Stdio};
 
 use scripts::{put_script, put_tools, told, Folder, Told};
 
-const TOOLS: [&str; 11] =
-    ["awk", "bash", "cat", "cp", "dirname", "env", "mktemp", "rm", "sed", "tail", "tee"];
+const TOOLS: [&str; 12] =
+    ["awk", "bash", "cat", "cp", "dirname", "env", "mktemp", "nproc", "rm", "sed", "tail", "tee"];
 const PACKAGES: &str = "cargo rustc gcc g++ libc6-dev";
 const CARGO: &str = "case \"$*\" in\n\
                      --version) echo cargo 1 ;;\n\
