@@ -12,8 +12,8 @@ use std::process::{Command, Stdio};
 use scripts::{put_script, put_tools, told, Folder, Told};
 
 const TOOLS: [&str; 17] = [
-    "awk", "basename", "bash", "cat", "cp", "cut", "dirname", "env", "grep", "ln", "mkdir", "mv", "nproc", "rm",
-    "sort", "wc", "xargs",
+    "awk", "basename", "bash", "cat", "cp", "cut", "dirname", "env", "grep", "ln", "mkdir", "mv", "nproc",
+    "rm", "sort", "wc", "xargs",
 ];
 
 /// Proves every code but one that has the word wrong, and does not understand one that has the word torn. It
@@ -96,7 +96,8 @@ fn is_bad(name: &str, edit: &str, reason: &str) {
 #[test]
 fn refused_edits_pass_and_the_crate_stays_as_it_was() {
     let two = "# a comment\nfile: src/lib.rt\nold: one\nnew:\nold: right & \\1\nnew: wrong & \\1\n";
-    let clone = Clone::with("refused", &[("first", two), ("second", "file: src/lib.rt\nold: one\nnew: wrong\n")]);
+    let clone =
+        Clone::with("refused", &[("first", two), ("second", "file: src/lib.rt\nold: one\nnew: wrong\n")]);
     assert_eq!(ending(&clone.run(&[])), ("2 passed, 0 failed", 0));
     assert_eq!(clone.text("crates/above/src/lib.rt"), "one\nright & \\1 right-hand\n");
     for name in ["first", "second"] {
@@ -130,9 +131,10 @@ fn an_edit_that_does_not_fit_fails() {
     is_bad("empty", "file: src/lib.rt\nnew: wrong\n", twice);
     is_bad("nothing", "# only a comment\n", "it replaces nothing");
     is_bad("no-file", "file: src/other.rt\nold: one\nnew: wrong\n", "there is no src/other.rt");
-    let outside = "file: src/../../below/src/lib.rt\nold: one\nnew: wrong\n";
-    is_bad("outside", outside, "it edits src/../../below/src/lib.rt, which is no code and no definition of the crate");
-    is_bad("proof", "file: proofs/Lib.antt\nold: right\nnew: wrong\n", "it edits proofs/Lib.antt, which is no code and no definition of the crate");
+    for file in ["src/../../below/src/lib.rt", "proofs/Lib.antt", "lib.rt"] {
+        let reason = format!("it edits {file}, which is no code and no definition of the crate");
+        is_bad("outside", &format!("file: {file}\nold: one\nnew: wrong\n"), &reason);
+    }
 }
 
 #[test]
