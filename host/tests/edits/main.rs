@@ -150,4 +150,9 @@ fn a_crate_that_is_not_proved_unedited_fails() {
 fn to_try_nothing_is_no_pass() {
     let clone = Clone::with("none", &[]);
     assert_eq!(ending(&clone.run(&["below"])), ("0 passed, 1 failed", 1));
+    assert_eq!(
+        (clone.run(&["other"]).status, clone.run(&[]).status),
+        (2, 2),
+        "no crate of that name, none at all"
+    );
 }
