@@ -1,21 +1,20 @@
 -- The records of one group as a table of their own: its group is the same, and its call answers as before.
-use mathlib.Core.Path.{_≡_, refl, sym, ap, _∙_}
+use mathlib.Core.Path.{_≡_, refl, sym, ap}
 use mathlib.Core.Bool.{Bool, true, false, cond}
 use mathlib.Core.List.{List, [], _∷_, _++_, map, append-nil, flatten}
-use Prim.Native.Nat.{ℕ, _+_, _*_, _/_, _%_, _≤_, _<_}
+use Prim.Native.Nat.{ℕ, _+_, _*_, _/_, _%_, _≤_}
 use native.Mathlib.Omega.{arith}
-use lib.Dec.{eqb, leb}
+use lib.Dec.{eqb}
 use lib.ListN.{length, length-append}
 use lib.Seq.{take-all}
 use borrow.Author.Tests.{eq-eqb, ne-eqb, le-leb}
 use Rattle.records.specs.Chunks.{chunks, chunkAt, recordsOf}
 use Rattle.records.specs.Legs.{legOf}
 use Rattle.records.specs.Lists.{keep, All}
-use Rattle.records.specs.Order.{firstOf}
 use Rattle.records.specs.Tables.{goodRecord, fieldChecks, tableChecks, wholeTable, legsOf}
 use Rattle.records.specs.declared.legs.Leg.{Leg}
 use Rattle.records.specs.declared.tables.Kind.the-variants.{Placement}
-use Rattle.records.proofs.ChunkLaws.{chunks-more, chunks-short, chunks-whole, length-chunks, records-append}
+use Rattle.records.proofs.ChunkLaws.{chunks-more, chunks-whole, length-chunks, records-append}
 use Rattle.records.proofs.ListLaws.{all-keep, length-keep, keep-append}
 use Rattle.records.proofs.PassLaws.{Pass, clear, unclear, pass-left, pass-right, pass-both, pass-each, each-pass}
 use Rattle.records.proofs.TableLaws.{whole}
@@ -24,18 +23,35 @@ use Rattle.spreads.specs.Calls.{groupChecks}
 use Rattle.spreads.specs.Spreads.{groupOf, groupIn, groupRule, spreadChecks}
 use Rattle.verdicts.specs.Steps.{Answered, groupTable, worksheetLines}
 
+-- ---- whole records joined to a table
+
+length-joined : (rs : List (List ℕ)) → All (λ r. length r ≡ 32) rs → length (flatten rs) ≡ 32 * length rs
+unfolding flatten
+length-joined [] a = refl
+length-joined (r ∷ rs) a = omega (arith, length-append r (flatten rs), length-joined rs (a .1), a .0)
+
+one-record : (r : List ℕ) → length r ≡ 32 → recordsOf r ≡ r ∷ []
+unfolding chunks
+one-record r e = let q : length r / 32 ≡ 1 = omega arith in rw q (ap (λ (l : List ℕ). l ∷ []) (take-all 32 r (omega arith)))
+
+-- they are its records
+records-joined : (rs : List (List ℕ)) → All (λ r. length r ≡ 32) rs → recordsOf (flatten rs) ≡ rs
+unfolding flatten chunks
+records-joined [] a = refl
+records-joined (r ∷ rs) a = rw (records-append 1 r (flatten rs) (a .0), one-record r (a .0), records-joined rs (a .1))
+
+-- ---- those of one group
+
 abbrev ofGroup : ℕ → List ℕ → Bool
 ofGroup g r = eqb (legOf r .group) g
+
+parts-whole : (g i : ℕ) (xs : List ℕ) → 32 * i ≤ length xs → All (λ r. length r ≡ 32) (keep (ofGroup g) (chunks 32 i xs))
+parts-whole g i xs h = all-keep (λ r. length r ≡ 32) (ofGroup g) (chunks 32 i xs) (chunks-whole 32 i xs h)
 
 -- ---- the loop that copies them: those of the first i records
 
 unfoldable pub copiedTo : ℕ → List ℕ → ℕ → List ℕ
 copiedTo g xs i = flatten (keep (ofGroup g) (chunks 32 i xs))
-
-flatten-short : (n : ℕ) (rs : List (List ℕ)) → All (λ r. length r ≤ n) rs → length (flatten rs) ≤ n * length rs
-unfolding flatten
-flatten-short n [] a = omega arith
-flatten-short n (r ∷ rs) a = omega (arith, length-append r (flatten rs), flatten-short n rs (a .1), a .0)
 
 module _ (g : ℕ) (xs : List ℕ) where
   pub copied-none : [] ≡ copiedTo g xs 0
@@ -59,12 +75,12 @@ module _ (g : ℕ) (xs : List ℕ) where
       copied-out e = rw (copied-next, ← is, ne-eqb (l .group) g e) (sym (append-nil (copiedTo g xs i)))
 
     -- no more than there are
-    pub copied-short : length (copiedTo g xs i) ≤ 32 * i
+    pub copied-short : 32 * i ≤ length xs → length (copiedTo g xs i) ≤ 32 * i
     unfolding copiedTo
-    copied-short =
+    copied-short h =
         omega (
           arith,
-          flatten-short 32 (keep (ofGroup g) (chunks 32 i xs)) (all-keep (λ r. length r ≤ 32) (ofGroup g) (chunks 32 i xs) (chunks-short 32 i xs)),
+          length-joined (keep (ofGroup g) (chunks 32 i xs)) (parts-whole g i xs h),
           length-keep (ofGroup g) (chunks 32 i xs),
           length-chunks 32 i xs,
         )
@@ -73,24 +89,7 @@ module _ (g : ℕ) (xs : List ℕ) where
   unfolding copiedTo groupTable
   copied-all = refl
 
--- ---- records joined
-
-length-joined : (rs : List (List ℕ)) → All (λ r. length r ≡ 32) rs → length (flatten rs) ≡ 32 * length rs
-unfolding flatten
-length-joined [] a = refl
-length-joined (r ∷ rs) a = omega (arith, length-append r (flatten rs), length-joined rs (a .1), a .0)
-
-one-record : (r : List ℕ) → length r ≡ 32 → recordsOf r ≡ r ∷ []
-unfolding chunks
-one-record r e = let q : length r / 32 ≡ 1 = omega arith in rw q (ap (λ (l : List ℕ). l ∷ []) (take-all 32 r (omega arith)))
-
--- are the records of the table that they are
-records-joined : (rs : List (List ℕ)) → All (λ r. length r ≡ 32) rs → recordsOf (flatten rs) ≡ rs
-unfolding flatten chunks
-records-joined [] a = refl
-records-joined (r ∷ rs) a = rw (records-append 1 r (flatten rs) (a .0), one-record r (a .0), records-joined rs (a .1))
-
--- ---- the table of a group
+-- ---- the table of them
 
 keep-map : {A B : Type 0} (f : A → B) (t : B → Bool) (l : List A) → map f (keep (λ x. t (f x)) l) ≡ keep t (map f l)
 unfolding keep
@@ -114,12 +113,12 @@ module _ (xs : List ℕ) (g : ℕ) where
   abbrev parts : List (List ℕ)
   parts = keep (ofGroup g) (recordsOf xs)
 
-  parts-whole : All (λ r. length r ≡ 32) parts
-  parts-whole = all-keep (λ r. length r ≡ 32) (ofGroup g) (recordsOf xs) (chunks-whole 32 (length xs / 32) xs (omega arith))
+  whole-parts : All (λ r. length r ≡ 32) parts
+  whole-parts = parts-whole g (length xs / 32) xs (omega arith)
 
   table-records : recordsOf (groupTable xs g) ≡ parts
   unfolding groupTable
-  table-records = records-joined parts parts-whole
+  table-records = records-joined parts whole-parts
 
   -- its legs are those of the group
   table-legs : legsOf (groupTable xs g) ≡ groupIn xs g
@@ -139,7 +138,7 @@ module _ (xs : List ℕ) (g : ℕ) where
 
   length-table : length (groupTable xs g) ≡ 32 * length parts
   unfolding groupTable
-  length-table = length-joined parts parts-whole
+  length-table = length-joined parts whole-parts
 
   -- no longer than the placement
   table-whole : wholeTable Placement (length xs) ≡ true → wholeTable Placement (length (groupTable xs g)) ≡ true

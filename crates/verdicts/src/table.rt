@@ -82,14 +82,14 @@ fn copy_group(placement: &[u8], g: usize, table: &mut [u8]) -> usize
 {
     let n = placement.len() / RECORD_BYTES;
     let mut next: usize = 0;
-    let mut i: usize = 0;
-    while i < n {
-        if records::leg_at(placement, i).group as usize == g {
-            let at = RECORD_BYTES * i;
+    let mut place: usize = 0;
+    while place < n {
+        if records::leg_at(placement, place).group as usize == g {
+            let at = RECORD_BYTES * place;
             let end = at + RECORD_BYTES;
             next = put_text(&placement[at..end], table, next);
         }
-        i += 1;
+        place += 1;
     }
     next
 }
@@ -148,9 +148,7 @@ fn read_table(counts: Counts, file: &[u8], out: &mut [u8; TABLE_BYTES]) -> usize
     let c = RECORD_BYTES * counts.claims;
     match check_copied(counts, file, &mut holdings, &mut placement, &mut claims) {
         Verdict::Refused(refusal) => refuse_line(refusal, out),
-        Verdict::Accepted(_, _) => {
-            put_groups(&placement[..p], &claims[..c], &mut holdings, out)
-        },
+        Verdict::Accepted(_, _) => put_groups(&placement[..p], &claims[..c], &mut holdings, out),
     }
 }
 

@@ -13,11 +13,11 @@ use Rattle.verdicts.proofs.table.copy_group.Statement.{statement}
 use Rattle.verdicts.proofs.table.copy_group.Tie as tie
 
 abbrev Inv-loop : tie.InvT-loop
-Inv-loop placement g table₀ n next₀ i₀ table next i =
-    (i ≤ n) × (n ≡ length placement / 32) × (length table ≡ length table₀) × Piece table₀ 0 (copiedTo g placement i) next table
+Inv-loop placement g table₀ n next₀ place₀ table next place =
+    (place ≤ n) × (n ≡ length placement / 32) × (length table ≡ length table₀) × Piece table₀ 0 (copiedTo g placement place) next table
 
 abbrev μ-loop : tie.MeasureT-loop
-μ-loop placement g table₀ n next₀ i₀ table next i = n - i
+μ-loop placement g table₀ n next₀ place₀ table next place = n - place
 
 abbrev start : tie.At-loop Inv-loop μ-loop → tie.Start Inv-loop μ-loop
 start l = l .before .before .before
@@ -31,8 +31,8 @@ put-text-requires : tie.Need-put-text-requires Inv-loop μ-loop
 put-text-requires c κs =
     let l = c .before .before .before .before .before .before in
     let a = start l .args in
-    rw (part-is 32 (l .loop .i) (now (a .placement)))
-    (omega (arith, length-take 32 (drop (32 * l .loop .i) (now (a .placement))), copied-short (a .g) (now (a .placement)) (l .loop .i)))
+    rw (part-is 32 (l .loop .place) (now (a .placement)))
+    (omega (arith, length-take 32 (drop (32 * l .loop .place) (now (a .placement))), copied-short (a .g) (now (a .placement)) (l .loop .place) (omega arith)))
 
 loop-again : tie.Need-loop-again Inv-loop μ-loop
 loop-again c =
@@ -45,14 +45,14 @@ loop-again c =
       refl,
       ap length (w .6) ∙ w .3 .kept .1 .0 ∙ l .loop .inv .2,
       rw (w .6, w .7)
-          (piece-is (copied-in (a .g) (now (a .placement)) (l .loop .i) (k .leg-at .ensures) (w .0 .taken))
-          (piece-then (omega arith) (l .loop .inv .3) (rw (part-is 32 (l .loop .i) (now (a .placement))) at (w .3 .ensures)))),
+          (piece-is (copied-in (a .g) (now (a .placement)) (l .loop .place) (k .leg-at .ensures) (w .0 .taken))
+          (piece-then (omega arith) (l .loop .inv .3) (rw (part-is 32 (l .loop .place) (now (a .placement))) at (w .3 .ensures)))),
     ))
     (λ w. (
       omega arith,
       refl,
       ap length (w .1) ∙ l .loop .inv .2,
-      rw (w .1, w .2) (piece-is (copied-out (a .g) (now (a .placement)) (l .loop .i) (k .leg-at .ensures) (w .0 .left)) (l .loop .inv .3)),
+      rw (w .1, w .2) (piece-is (copied-out (a .g) (now (a .placement)) (l .loop .place) (k .leg-at .ensures) (w .0 .left)) (l .loop .inv .3)),
     ))
     (c .if1 .came)
 
@@ -60,7 +60,7 @@ returns : tie.Need-returns Inv-loop μ-loop
 returns c =
     let l = c .before in
     let a = start l .args in
-    let e : l .loop .i ≡ length (now (a .placement)) / 32 = omega arith in
+    let e : l .loop .place ≡ length (now (a .placement)) / 32 = omega arith in
     piece-is (copied-all (a .g) (now (a .placement))) (rw e at (l .loop .inv .3))
 
 pub copy-group-spec : {M : Type 1} → statement M
