@@ -18,7 +18,7 @@ use Rattle.records.proofs.TableLaws.{within-true}
 use Rattle.fills.specs.Fills.{actionOf, isOpen, isClose, plainOf, fillLeg, goodPlain, goodFill}
 use Rattle.fills.specs.Rows.{heldOf, opened, closed, merged}
 use Rattle.fills.specs.Played.{numberOver, rowsAfter, playedOver}
-use Rattle.fills.specs.Ledger.{Ledger, emptyLedger, startedFrom, ledgerAfter, StandFor, Filled, Apart}
+use Rattle.fills.specs.Ledger.{Ledger, emptyLedger, startedFrom, ledgerAfter, StandFor, Apart}
 use Rattle.fills.specs.Balance.{acceptedOver, openedIn, closedIn}
 use Rattle.fills.specs.Demands.{ContractsKept}
 use Rattle.fills.proofs.LedgerLaws.{fill-good, fill-close, after-stands, start-stands, ledger-stands}
