@@ -5,8 +5,7 @@ use mathlib.Core.List.{List, [], _∷_, _++_, map, append-nil, flatten}
 use Prim.Native.Nat.{ℕ, _+_, _*_, _/_, _%_, _≤_}
 use native.Mathlib.Omega.{arith}
 use lib.Dec.{eqb}
-use lib.ListN.{length, length-append}
-use lib.Seq.{take-all}
+use lib.ListN.{length}
 use borrow.Author.Tests.{eq-eqb, ne-eqb, le-leb}
 use Rattle.records.specs.Chunks.{chunks, chunkAt, recordsOf}
 use Rattle.records.specs.Legs.{legOf}
@@ -14,31 +13,20 @@ use Rattle.records.specs.Lists.{keep, All}
 use Rattle.records.specs.Tables.{goodRecord, fieldChecks, tableChecks, wholeTable, legsOf}
 use Rattle.records.specs.declared.legs.Leg.{Leg}
 use Rattle.records.specs.declared.tables.Kind.the-variants.{Placement}
-use Rattle.records.proofs.ChunkLaws.{chunks-more, chunks-whole, length-chunks, records-append}
+use Rattle.records.proofs.ChunkLaws.{chunks-more, chunks-whole, length-chunks}
+use Rattle.records.proofs.JoinLaws.{flatten-append, flatten-one, length-flatten, cut-joined}
 use Rattle.records.proofs.ListLaws.{all-keep, length-keep, keep-append}
 use Rattle.records.proofs.PassLaws.{Pass, clear, unclear, pass-left, pass-right, pass-both, pass-each, each-pass}
 use Rattle.records.proofs.TableLaws.{whole}
-use Rattle.blocks.proofs.FlatLaws.{flatten-append, flatten-one}
 use Rattle.spreads.specs.Calls.{groupChecks}
 use Rattle.spreads.specs.Spreads.{groupOf, groupIn, groupRule, spreadChecks}
 use Rattle.verdicts.specs.Steps.{Answered, groupTable, worksheetLines}
 
--- ---- whole records joined to a table
-
-length-joined : (rs : List (List ℕ)) → All (λ r. length r ≡ 32) rs → length (flatten rs) ≡ 32 * length rs
-unfolding flatten
-length-joined [] a = refl
-length-joined (r ∷ rs) a = omega (arith, length-append r (flatten rs), length-joined rs (a .1), a .0)
-
-one-record : (r : List ℕ) → length r ≡ 32 → recordsOf r ≡ r ∷ []
-unfolding chunks
-one-record r e = let q : length r / 32 ≡ 1 = omega arith in rw q (ap (λ (l : List ℕ). l ∷ []) (take-all 32 r (omega arith)))
-
--- they are its records
+-- whole records joined to a table are its records
 records-joined : (rs : List (List ℕ)) → All (λ r. length r ≡ 32) rs → recordsOf (flatten rs) ≡ rs
-unfolding flatten chunks
-records-joined [] a = refl
-records-joined (r ∷ rs) a = rw (records-append 1 r (flatten rs) (a .0), one-record r (a .0), records-joined rs (a .1))
+records-joined rs a =
+    let n : length (flatten rs) / 32 ≡ length rs = omega (arith, length-flatten 32 rs a) in
+    rw n (cut-joined 32 rs a)
 
 -- ---- those of one group
 
@@ -80,7 +68,7 @@ module _ (g : ℕ) (xs : List ℕ) where
     copied-short h =
         omega (
           arith,
-          length-joined (keep (ofGroup g) (chunks 32 i xs)) (parts-whole g i xs h),
+          length-flatten 32 (keep (ofGroup g) (chunks 32 i xs)) (parts-whole g i xs h),
           length-keep (ofGroup g) (chunks 32 i xs),
           length-chunks 32 i xs,
         )
@@ -138,7 +126,7 @@ module _ (xs : List ℕ) (g : ℕ) where
 
   length-table : length (groupTable xs g) ≡ 32 * length parts
   unfolding groupTable
-  length-table = length-joined parts whole-parts
+  length-table = length-flatten 32 parts whole-parts
 
   -- no longer than the placement
   table-whole : wholeTable Placement (length xs) ≡ true → wholeTable Placement (length (groupTable xs g)) ≡ true
