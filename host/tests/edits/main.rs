@@ -6,24 +6,28 @@
 mod scripts;
 
 use std::fs;
+use std::os::unix::fs::symlink;
 use std::path::{Path, PathBuf};
 use std::process::{Command, Stdio};
 
 use scripts::{put_script, put_tools, told, Folder, Told};
 
-const TOOLS: [&str; 17] = [
-    "awk", "basename", "bash", "cat", "cp", "cut", "dirname", "env", "grep", "ln", "mkdir", "mv", "nproc",
-    "rm", "sort", "wc", "xargs",
+const TOOLS: [&str; 19] = [
+    "awk", "basename", "bash", "cat", "cp", "cut", "dirname", "env", "find", "grep", "ln", "mkdir", "mktemp",
+    "mv", "nproc", "rm", "sort", "wc", "xargs",
 ];
 
-/// Proves every code but one that has the word wrong, and does not understand one that has the word torn. It
-/// leaves a part behind, and says whether it has found one.
-const CHECK: &str = "[ \"$1\" = dev ] || exit 2\n\
+/// Proves every code but one that has the word wrong, and does not understand one that has the word torn; where
+/// there is the word below, a crate below it is not proved. It leaves a part behind, and says whether it has
+/// found one. Asked for a check of the repository itself, it says that all is proved.
+const CHECK: &str = "[ \"$1\" != check ] || exit 0\n\
+                     [ \"$1\" = dev ] || exit 2\n\
                      code=crates/$2/src/lib.rt\n\
                      ! grep -q torn $code || exit 2\n\
                      [ -f crates.txt ] && [ -d target/rlib ] && [ -d target/stamp ] && [ -d crates/below/src ] || exit 2\n\
                      [ ! -f target/inc/$2/part ] || echo taken over\n\
                      mkdir -p target/inc/$2 && echo part >target/inc/$2/part\n\
+                     if grep -q below $code; then echo logic=not-proved; echo rt: FAILED: below; exit 1; fi\n\
                      if grep -q wrong $code; then echo logic=not-proved; exit 1; fi\n\
                      echo logic=proved";
 
@@ -93,34 +97,48 @@ fn is_bad(name: &str, edit: &str, reason: &str) {
     assert_eq!(tried(name, edit), expected, "{edit}");
 }
 
+const WRONG: &str = "file: src/lib.rt\nold: one\nnew: wrong\n";
+const HARMLESS: &str = "file: src/lib.rt\nold: one\nnew: two\n";
+
 #[test]
 fn refused_edits_pass_and_the_crate_stays_as_it_was() {
-    let two = "# a comment\nfile: src/lib.rt\nold: one\nnew:\nold: right & \\1\nnew: wrong & \\1\n";
-    let clone =
-        Clone::with("refused", &[("first", two), ("second", "file: src/lib.rt\nold: one\nnew: wrong\n")]);
+    let two = "# a comment\nfile: src/lib.rt\nold: one\nnew:\nold: right & \\1\nnew: wrong & \\1";
+    let clone = Clone::with("refused", &[("first", two), ("unedited", WRONG)]);
     assert_eq!(ending(&clone.run(&[])), ("2 passed, 0 failed", 0));
     assert_eq!(clone.text("crates/above/src/lib.rt"), "one\nright & \\1 right-hand\n");
-    for name in ["first", "second"] {
+    for name in ["first", "unedited"] {
         let log = clone.text(&format!("target/edits/above/{name}.log"));
         assert_eq!(log, "taken over\nlogic=not-proved\n", "over the parts of the unedited crate");
     }
-    assert_eq!(clone.text("target/edits/above/unedited.log"), "logic=proved\n");
+    assert_eq!(clone.text("target/edits/above.unedited.log"), "logic=proved\n");
     assert_eq!(ending(&clone.run(&["--from-nothing", "above"])), ("2 passed, 0 failed", 0));
     assert_eq!(clone.text("target/edits/above/first.log"), "logic=not-proved\n");
+    let left: Vec<_> = fs::read_dir(clone.beside("target")).expect("a folder").collect();
+    assert_eq!(left.len(), 3, "what is proved, and the logs: {left:?}");
 }
 
 #[test]
 fn an_edit_that_is_still_proved_fails() {
-    let (said, last, status) = tried("proved", "file: src/lib.rt\nold: one\nnew: two\n");
+    let (said, last, status) = tried("proved", HARMLESS);
     assert_eq!(said, "NOT REFUSED: the crate is still proved with this edit");
     assert_eq!((last.as_str(), status), ("0 passed, 1 failed", 1));
 }
 
 #[test]
+fn what_an_earlier_run_found_does_not_count() {
+    let clone = Clone::with("earlier", &[("it", WRONG)]);
+    assert_eq!(ending(&clone.run(&[])), ("1 passed, 0 failed", 0));
+    clone.put("crates/above/must-fail/more/it.edit", HARMLESS);
+    assert_eq!(ending(&clone.run(&[])), ("0 passed, 1 failed", 1));
+}
+
+#[test]
 fn an_edit_that_the_prover_never_sees_fails() {
-    let (said, last, status) = tried("torn", "file: src/lib.rt\nold: one\nnew: torn\n");
-    assert!(said.starts_with("BAD EDIT: it did not reach the prover (exit 2)"), "{said}");
-    assert_eq!((last.as_str(), status), ("0 passed, 1 failed", 1));
+    for word in ["torn", "below"] {
+        let (said, last, status) = tried(word, &format!("file: src/lib.rt\nold: one\nnew: {word}\n"));
+        assert!(said.starts_with("BAD EDIT: it did not reach the prover"), "{said}");
+        assert_eq!((last.as_str(), status), ("0 passed, 1 failed", 1));
+    }
 }
 
 #[test]
@@ -129,6 +147,7 @@ fn an_edit_that_does_not_fit_fails() {
     is_bad("twice", "file: src/lib.rt\nold: right\nnew: wrong\n", twice);
     is_bad("never", "file: src/lib.rt\nold: absent\nnew: wrong\n", twice);
     is_bad("empty", "file: src/lib.rt\nnew: wrong\n", twice);
+    is_bad("again", "file: src/lib.rt\nold: one\nnew: one wrong\nnew: wrong\n", twice);
     is_bad("nothing", "# only a comment\n", "it replaces nothing");
     is_bad("no-file", "file: src/other.rt\nold: one\nnew: wrong\n", "there is no src/other.rt");
     for file in ["src/../../below/src/lib.rt", "proofs/Lib.antt", "lib.rt"] {
@@ -138,21 +157,28 @@ fn an_edit_that_does_not_fit_fails() {
 }
 
 #[test]
-fn a_crate_that_is_not_proved_unedited_fails() {
-    let clone = Clone::with("unproved", &[("it", "file: src/lib.rt\nold: one\nnew: wrong\n")]);
+fn where_the_unedited_crate_is_not_proved_no_edit_passes() {
+    let clone = Clone::with("unproved", &[("it", WRONG)]);
     clone.put("crates/above/src/lib.rt", "one\nwrong\n");
     let run = clone.run(&[]);
-    assert_eq!(ending(&run), ("1 passed, 1 failed", 1));
-    assert!(run.out.contains("edits: above is NOT PROVED as it stands"), "{}", run.out);
+    assert_eq!(ending(&run), ("0 passed, 1 failed", 1));
+    assert!(run.out.contains("edits: above/it: NOT TRIED: above is not proved as it stands"), "{}", run.out);
+
+    let clone = Clone::with("linked", &[("it", WRONG)]);
+    symlink("lib.rt", clone.beside("crates/above/src/other.rt")).expect("a link");
+    assert_eq!(ending(&clone.run(&[])), ("0 passed, 1 failed", 1), "a crate with a link is not copied");
 }
 
 #[test]
 fn to_try_nothing_is_no_pass() {
-    let clone = Clone::with("none", &[]);
-    assert_eq!(ending(&clone.run(&["below"])), ("0 passed, 1 failed", 1));
-    assert_eq!(
-        (clone.run(&["other"]).status, clone.run(&[]).status),
-        (2, 2),
-        "no crate of that name, none at all"
-    );
+    let nothing = |clone: Clone, arguments: &[&str], err: &str, status: i32| {
+        let run = clone.run(arguments);
+        assert_eq!((run.out.as_str(), run.err.as_str(), run.status), ("0 passed, 1 failed\n", err, status));
+    };
+    nothing(Clone::with("none", &[]), &[], "edits: there is none\n", 2);
+    nothing(Clone::with("none-of-it", &[("it", WRONG)]), &["below"], "edits: there is none\n", 2);
+    nothing(Clone::with("no-crate", &[]), &["other"], "edits: there is no crate other\n", 2);
+    let clone = Clone::with("not-proved", &[("it", WRONG)]);
+    put_script(&clone.beside("tools/rt"), "echo 'rt: FAILED: below'; exit 1");
+    nothing(clone, &[], "rt: FAILED: below\n", 1);
 }

@@ -38,7 +38,10 @@ impl Machine {
         }
         put_tools(&machine.beside("tools"), &TOOLS);
         put_script(&machine.beside("clone/check-sheet"), "echo ACCEPT 2 1500000");
-        put_script(&machine.beside("clone/.ci/edits"), &machine.told_to("edits", "echo '4 passed, 0 failed'"));
+        put_script(
+            &machine.beside("clone/.ci/edits"),
+            &machine.told_to("edits", "echo '4 passed, 0 failed'"),
+        );
         machine.put("uname", "echo x86_64");
         machine.put("id", "echo 0");
         machine.put("rt", &machine.told_to("rt", "[ \"$1\" != ci ] || echo '3 passed, 0 failed'"));
@@ -119,6 +122,9 @@ fn with_all_there_nothing_is_installed_and_everything_counted() {
         "3 proved, 4 edits refused, 6 tested, README's command"
     );
     assert_eq!(machine.asked(), ["rt ci", "edits ", "rt staticlib usm_c"]);
+    fs::remove_file(machine.tool("nproc")).expect("it was there");
+    assert_eq!(ending(&machine.gate()), ("14 passed, 0 failed", 0, ""), "nobody says how many processors");
+    assert_eq!(machine.asked()[3..], ["rt ci", "edits ", "rt staticlib usm_c"]);
 }
 
 #[test]
