@@ -2,7 +2,7 @@
 use mathlib.Core.Path.{_≡_, refl, sym, ap, _∙_}
 use mathlib.Core.Bool.{_&&_}
 use mathlib.Core.List.{List, [], _∷_, _++_}
-use Prim.Native.Nat.{ℕ, zero, suc, _+_, _*_, _/_, _%_, _≤_, _<_}
+use Prim.Native.Nat.{ℕ, zero, suc, _+_, _/_, _%_, _≤_, _<_}
 use native.Mathlib.Numerals.{add-one}
 use native.Mathlib.Omega.{arith}
 use lib.Dec.{eqb}
@@ -11,7 +11,7 @@ use lib.Seq.{drop-cons, take-add, drop-drop}
 use borrow.Author.Tests.{eq-eqb}
 use Rattle.records.specs.Bytes.{leAt, isZero, zeroIn}
 use Rattle.records.specs.Lists.{allOf, same}
-use Rattle.records.proofs.ByteLaws.{zero-in}
+use Rattle.records.proofs.ByteLaws.{leAt-next, leAt-none, zero-in}
 use Rattle.records.proofs.ListLaws.{allOf-append}
 use Rattle.blocks.specs.Forms.{kept}
 use Rattle.blocks.specs.Block.{tailFits, tailOf, zeros, bytesWide}
@@ -21,14 +21,6 @@ use Rattle.blocks.specs.declared.forms.Form.the-variants.{Old, New}
 -- each element is a byte
 abbrev pub SmallAt : List ℕ → Type 0
 SmallAt b = (i : ℕ) → i < length b → getD b i 0 < 256
-
-leAt-next : (b : List ℕ) (at w : ℕ) → leAt b at (suc w) ≡ getD b at 0 + 256 * leAt b (at + 1) w
-unfolding leAt
-leAt-next b at w = refl
-
-leAt-none : (b : List ℕ) (at : ℕ) → leAt b at 0 ≡ 0
-unfolding leAt
-leAt-none b at = refl
 
 -- bytes are those of the number that they say
 pub bytes-say : (b : List ℕ) (w at : ℕ) → SmallAt b → at + suc w ≤ length b → take (suc w) (drop at b) ≡ bytesWide (suc w) (leAt b at (suc w))
@@ -54,6 +46,10 @@ unfolding same allOf
 same-zeros [] = refl
 same-zeros (a ∷ x) = rw (same-zeros x)
 
+-- the same of so many bytes
+zeros-of : (n : ℕ) (x : List ℕ) → length x ≡ n → same x (zeros n) ≡ allOf isZero x
+zeros-of n x e = rw (← e) (same-zeros x)
+
 module _ (b : List ℕ) (len : length b ≡ 512) where
   cut : take 12 (drop 496 b) ≡ take 8 (drop 496 b) ++ take 4 (drop 504 b)
   cut = take-add 8 4 (drop 496 b) ∙ ap (λ (l : List ℕ). take 8 (drop 496 b) ++ take 4 l) (drop-drop 8 496 b)
@@ -61,9 +57,6 @@ module _ (b : List ℕ) (len : length b ≡ 512) where
   zero-say : allOf isZero (take 8 (drop 496 b)) ≡ eqb (leAt b 496 8) 0
   unfolding zeroIn
   zero-say = zero-in b 496 503 (omega arith) (omega arith)
-
-  zeros-of : (n : ℕ) (x : List ℕ) → length x ≡ n → same x (zeros n) ≡ allOf isZero x
-  zeros-of n x e = rw (← e) (same-zeros x)
 
   -- the form keeps the number that stands there, and zeros follow it
   pub tail-says : (form : Form) → SmallAt b

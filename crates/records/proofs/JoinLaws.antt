@@ -1,12 +1,12 @@
 -- Pieces of one size, records or blocks, joined one after the other: how many bytes they are, and cut again.
 use mathlib.Core.Path.{_≡_, refl, sym}
 use mathlib.Core.List.{List, [], _∷_, _++_, append-assoc, append-nil, flatten}
-use Prim.Native.Nat.{ℕ, zero, suc, _*_}
+use Prim.Native.Nat.{ℕ, zero, suc, _*_, _/_}
 use native.Mathlib.Nat.{mul-suc}
 use native.Mathlib.Omega.{arith}
 use lib.ListN.{length, drop, length-append, length-drop, take-append-drop}
 use lib.Seq.{take-at, drop-at}
-use Rattle.records.specs.Chunks.{chunks}
+use Rattle.records.specs.Chunks.{chunks, recordsOf}
 use Rattle.records.specs.Lists.{All}
 
 pub flatten-append : (a b : List (List ℕ)) → flatten (a ++ b) ≡ flatten a ++ flatten b
@@ -36,3 +36,9 @@ module _ (size : ℕ) where
   join-cut (suc n) f e =
       let d : length (drop size f) ≡ size * n = simp length-drop (omega (arith, mul-suc size n)) in
       rw (join-cut n (drop size f) d) (take-append-drop size f)
+
+-- whole records joined to a table are its records
+pub records-joined : (rs : List (List ℕ)) → All (λ r. length r ≡ 32) rs → recordsOf (flatten rs) ≡ rs
+records-joined rs a =
+    let n : length (flatten rs) / 32 ≡ length rs = omega (arith, length-flatten 32 rs a) in
+    rw n (cut-joined 32 rs a)

@@ -56,7 +56,7 @@ pub fn u16_at(part: &[u8], at: usize) -> u16
     u16_in(part, at)
 }
 
-// Four bytes by value, so that they are read without a place in memory.
+// Four bytes, by value: a struct of bytes spares the proof an array.
 pub(crate) struct Four(pub(crate) u8, pub(crate) u8, pub(crate) u8, pub(crate) u8);
 
 // The bytes of a number, lowest first.

@@ -122,18 +122,18 @@ pub fn leg_at(table: &[u8], i: usize) -> Leg
 }
 
 // The bytes of the fields that have four.
-struct Wide {
+struct WideFields {
     underlying: Four,
     strike: Four,
     expiry: Four,
     contracts: Four,
 }
 
-fn wide_fields(leg: Leg) -> Wide
+fn wide_fields(leg: Leg) -> WideFields
     ensures { λ r. ⌜ (fourOf (r .underlying) ≡ leBytes (leg .underlying) 4) × (fourOf (r .strike) ≡ leBytes (leg .strike) 4) ⌝ }
     ensures { λ r. ⌜ (fourOf (r .expiry) ≡ leBytes (leg .expiry) 4) × (fourOf (r .contracts) ≡ leBytes (leg .contracts .0) 4) ⌝ }
 {
-    Wide {
+    WideFields {
         underlying: u32_bytes(leg.underlying),
         strike: u32_bytes(leg.strike),
         expiry: u32_bytes(leg.expiry),

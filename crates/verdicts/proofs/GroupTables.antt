@@ -1,7 +1,7 @@
 -- The records of one group as a table of their own: its group is the same, and its call answers as before.
 use mathlib.Core.Path.{_≡_, refl, sym, ap}
-use mathlib.Core.Bool.{Bool, true, false, cond}
-use mathlib.Core.List.{List, [], _∷_, _++_, map, append-nil, flatten}
+use mathlib.Core.Bool.{Bool, true}
+use mathlib.Core.List.{List, [], _∷_, _++_, append-nil, flatten}
 use Prim.Native.Nat.{ℕ, _+_, _*_, _/_, _%_, _≤_}
 use native.Mathlib.Omega.{arith}
 use lib.Dec.{eqb}
@@ -10,23 +10,17 @@ use borrow.Author.Tests.{eq-eqb, ne-eqb, le-leb}
 use Rattle.records.specs.Chunks.{chunks, chunkAt, recordsOf}
 use Rattle.records.specs.Legs.{legOf}
 use Rattle.records.specs.Lists.{keep, All}
-use Rattle.records.specs.Tables.{goodRecord, fieldChecks, tableChecks, wholeTable, legsOf}
+use Rattle.records.specs.Tables.{mostLegs, goodRecord, fieldChecks, tableChecks, wholeTable, legsOf}
 use Rattle.records.specs.declared.legs.Leg.{Leg}
 use Rattle.records.specs.declared.tables.Kind.the-variants.{Placement}
 use Rattle.records.proofs.ChunkLaws.{chunks-more, chunks-whole, length-chunks}
-use Rattle.records.proofs.JoinLaws.{flatten-append, flatten-one, length-flatten, cut-joined}
-use Rattle.records.proofs.ListLaws.{all-keep, length-keep, keep-append}
+use Rattle.records.proofs.JoinLaws.{flatten-append, flatten-one, length-flatten, records-joined}
+use Rattle.records.proofs.ListLaws.{all-keep, length-keep, keep-map, keep-keep, keep-append}
 use Rattle.records.proofs.PassLaws.{Pass, clear, unclear, pass-left, pass-right, pass-both, pass-each, each-pass}
 use Rattle.records.proofs.TableLaws.{whole}
 use Rattle.spreads.specs.Calls.{groupChecks}
 use Rattle.spreads.specs.Spreads.{groupOf, groupIn, groupRule, spreadChecks}
 use Rattle.verdicts.specs.Steps.{Answered, groupTable, worksheetLines}
-
--- whole records joined to a table are its records
-records-joined : (rs : List (List ℕ)) → All (λ r. length r ≡ 32) rs → recordsOf (flatten rs) ≡ rs
-records-joined rs a =
-    let n : length (flatten rs) / 32 ≡ length rs = omega (arith, length-flatten 32 rs a) in
-    rw n (cut-joined 32 rs a)
 
 -- ---- those of one group
 
@@ -79,24 +73,6 @@ module _ (g : ℕ) (xs : List ℕ) where
 
 -- ---- the table of them
 
-keep-map : {A B : Type 0} (f : A → B) (t : B → Bool) (l : List A) → map f (keep (λ x. t (f x)) l) ≡ keep t (map f l)
-unfolding keep
-keep-map f t [] = refl
-keep-map f t (x ∷ l) = rw (sym (keep-map f t l)) (go (t (f x)))
-  where
-    go : (b : Bool) → map f (cond b (x ∷ keep (λ y. t (f y)) l) (keep (λ y. t (f y)) l)) ≡ cond b (f x ∷ map f (keep (λ y. t (f y)) l)) (map f (keep (λ y. t (f y)) l))
-    go true = refl
-    go false = refl
-
-keep-keep : {A : Type 0} (t : A → Bool) (l : List A) → keep t (keep t l) ≡ keep t l
-unfolding keep
-keep-keep t [] = refl
-keep-keep t (x ∷ l) = go (t x) refl (keep-keep t l)
-  where
-    go : (b : Bool) → t x ≡ b → keep t (keep t l) ≡ keep t l → keep t (cond b (x ∷ keep t l) (keep t l)) ≡ cond b (x ∷ keep t l) (keep t l)
-    go true e k = rw (e, k)
-    go false e k = k
-
 module _ (xs : List ℕ) (g : ℕ) where
   abbrev parts : List (List ℕ)
   parts = keep (ofGroup g) (recordsOf xs)
@@ -133,9 +109,9 @@ module _ (xs : List ℕ) (g : ℕ) where
   table-whole w =
       let n = length (groupTable xs g) in
       let rest : n % 32 ≡ 0 = omega (arith, length-table) in
-      let few : n / 32 ≤ 256 =
+      let few : n / 32 ≤ mostLegs =
       omega (arith, length-table, length-keep (ofGroup g) (recordsOf xs), length-chunks 32 (length xs / 32) xs, whole Placement (length xs) w) in
-      rw (rest, le-leb (n / 32) 256 few)
+      rw (rest, le-leb (n / 32) mostLegs few)
 
   table-fields : Pass (fieldChecks Placement xs) → Pass (fieldChecks Placement (groupTable xs g))
   unfolding fieldChecks
