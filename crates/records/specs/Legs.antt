@@ -53,7 +53,7 @@ legBytes l =
 abbrev pub mostContracts : ℕ
 mostContracts = 100000
 
--- the ranges of the rows up to the expiry; the group is at most `top`
+-- the ranges of the rows before the expiry; the group is at most `top`
 unfoldable pub termsInRange : ℕ → Leg → Bool
 termsInRange top l =
     within 0 top (l .group)
@@ -64,12 +64,15 @@ termsInRange top l =
     && within 1 1000 (l .size)
     && within 1 4294967295 (l .underlying)
     && within 1 99999999 (l .strike)
-    && realDate (l .expiry)
 
 -- each field's range
 unfoldable pub inRange : ℕ → Leg → Bool
 inRange top l =
-    termsInRange top l && within 1 mostContracts (l .contracts .0) && within 0 2 (l .settlement) && within 0 1 (l .paid)
+    termsInRange top l
+    && realDate (l .expiry)
+    && within 1 mostContracts (l .contracts .0)
+    && within 0 2 (l .settlement)
+    && within 0 1 (l .paid)
 
 -- 32 bytes, each field in its range, bytes 26 to 31 zero
 unfoldable pub goodLeg : ℕ → List ℕ → Bool

@@ -193,16 +193,19 @@ fn terms_in_range(top: u16, leg: Leg) -> bool
         & is_within(1, 1000, leg.size as u32)
         & is_within(1, 4294967295, leg.underlying)
         & is_within(1, 99999999, leg.strike)
-        & real_date(leg.expiry)
 }
 
+// The date takes the longest, and is looked at only where all before it is right.
 fn in_range(top: u16, leg: Leg) -> bool
     ensures { λ r. ⌜ r ≡ inRange top leg ⌝ }
 {
-    terms_in_range(top, leg)
-        & is_within(1, MOST_CONTRACTS, leg.contracts.number())
-        & is_within(0, 2, leg.settlement as u32)
-        & is_within(0, 1, leg.paid as u32)
+    if terms_in_range(top, leg) {
+        return real_date(leg.expiry)
+            & is_within(1, MOST_CONTRACTS, leg.contracts.number())
+            & is_within(0, 2, leg.settlement as u32)
+            & is_within(0, 1, leg.paid as u32);
+    }
+    false
 }
 
 // Whether the part is a leg record with each field in its range and a group of at most `top`. The filler is zero

@@ -6,12 +6,11 @@ use Rattle.records.proofs.legs.terms_in_range.Tie as tie
 returns : tie.Need-returns
 unfolding termsInRange
 returns c =
-    let w = c .before .before .before in
+    let w = c .before .before in
     let v = w .before .before .before .before .before .before in
     rw (
-      c .real-date .ensures,
-      c .before .is-within8 .ensures,
-      c .before .before .is-within7 .ensures,
+      c .is-within8 .ensures,
+      c .before .is-within7 .ensures,
       w .is-within6 .ensures,
       w .before .before .is-within5 .ensures,
       w .before .before .before .before .is-within4 .ensures,
@@ -35,7 +34,6 @@ terms-in-range-spec =
     (λ c. search needs)
     (λ c κs. search needs)
     (λ c. search needs)
-    (λ c κs. search needs)
     (λ c κs. search needs)
     (λ c κs. search needs)
     (λ c κs. search needs)
