@@ -12,9 +12,9 @@ use std::process::{Command, Stdio};
 
 use scripts::{put_script, put_tools, told, Folder, Told};
 
-const TOOLS: [&str; 19] = [
-    "awk", "basename", "bash", "cat", "cp", "cut", "dirname", "env", "find", "grep", "ln", "mkdir", "mktemp",
-    "mv", "nproc", "rm", "sort", "wc", "xargs",
+const TOOLS: [&str; 20] = [
+    "awk", "basename", "bash", "cat", "cp", "cut", "dirname", "env", "find", "grep", "ln", "ls", "mkdir",
+    "mktemp", "mv", "nproc", "rm", "sort", "wc", "xargs",
 ];
 
 /// Proves every code but one that has the word wrong, and does not understand one that has the word torn; where
@@ -22,11 +22,12 @@ const TOOLS: [&str; 19] = [
 /// found one. Asked for a check of the repository itself, it says that all is proved.
 const CHECK: &str = "[ \"$1\" != check ] || exit 0\n\
                      [ \"$1\" = dev ] || exit 2\n\
-                     code=crates/$2/src/lib.rt\n\
+                     kept=target/inc/$2/kept code=crates/$2/src/lib.rt\n\
+                     if [ \"$2\" = nothing ]; then mkdir -p $kept; exit 0; fi\n\
                      ! grep -q torn $code || exit 2\n\
                      [ -f crates.txt ] && [ -d target/rlib ] && [ -d target/stamp ] && [ -d crates/below/src ] || exit 2\n\
-                     [ ! -f target/inc/$2/part ] || echo taken over\n\
-                     mkdir -p target/inc/$2 && echo part >target/inc/$2/part\n\
+                     [ ! -f $kept/part ] || echo taken over\n\
+                     mkdir -p $kept && echo part >$kept/part\n\
                      if grep -q below $code; then echo logic=not-proved; echo rt: FAILED: below; exit 1; fi\n\
                      if grep -q wrong $code; then echo logic=not-proved; exit 1; fi\n\
                      echo logic=proved";
@@ -115,6 +116,14 @@ fn refused_edits_pass_and_the_crate_stays_as_it_was() {
     assert_eq!(clone.text("target/edits/above/first.log"), "logic=not-proved\n");
     let left: Vec<_> = fs::read_dir(clone.beside("target")).expect("a folder").collect();
     assert_eq!(left.len(), 3, "what is proved, and the logs: {left:?}");
+}
+
+#[test]
+fn the_unedited_crate_takes_over_what_its_library_carries() {
+    let clone = Clone::with("library", &[("it", WRONG)]);
+    clone.put("target/rlib/above.rlib/toolchain/checked/part", "part\n");
+    assert_eq!(ending(&clone.run(&[])), ("1 passed, 0 failed", 0));
+    assert_eq!(clone.text("target/edits/above.unedited.log"), "taken over\nlogic=proved\n");
 }
 
 #[test]
