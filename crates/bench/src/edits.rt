@@ -112,9 +112,14 @@ fn clear(memory: &mut [u8], sizes: &mut [usize]) {
     resize(memory, sizes, b'd', 0);
 }
 
-// The commands on whole records. Whether the line is one of them; if so, it is done.
+// Whether the line is a record of a table.
+fn is_record(line: &[u8]) -> bool {
+    says(line, b"h") | says(line, b"p") | says(line, b"c") | says(line, b"d")
+}
+
+// The commands that append or empty. Whether the line is one of them; if so, it is done.
 fn edit_records(line: &[u8], memory: &mut [u8], sizes: &mut [usize]) -> bool {
-    if says(line, b"h") | says(line, b"p") | says(line, b"c") | says(line, b"d") {
+    if is_record(line) {
         append(line, memory, sizes);
         return true;
     }
@@ -122,6 +127,11 @@ fn edit_records(line: &[u8], memory: &mut [u8], sizes: &mut [usize]) -> bool {
         clear(memory, sizes);
         return true;
     }
+    false
+}
+
+// The commands on a table's length, likewise.
+fn edit_lengths(line: &[u8], memory: &mut [u8], sizes: &mut [usize]) -> bool {
     if says(line, b"fill") {
         fill(line, memory, sizes);
         return true;
@@ -157,6 +167,9 @@ fn edit_bytes(line: &[u8], memory: &mut [u8]) -> bool {
 
 pub(crate) fn edit(line: &[u8], memory: &mut [u8], sizes: &mut [usize]) -> bool {
     if edit_records(line, memory, sizes) {
+        return true;
+    }
+    if edit_lengths(line, memory, sizes) {
         return true;
     }
     edit_bytes(line, memory)

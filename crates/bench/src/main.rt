@@ -136,29 +136,41 @@ fn ask_forms(line: &[u8], memory: &mut [u8], sizes: &mut [usize]) -> bool {
     false
 }
 
+// The commands that answer and change tables, likewise.
+fn ask_changes(line: &[u8], memory: &mut [u8], sizes: &mut [usize]) -> bool {
+    if says(line, b"try") {
+        attempt(line, memory, sizes);
+        return true;
+    }
+    if says(line, b"mark") {
+        marks::mark(memory, sizes);
+        return true;
+    }
+    if says(line, b"play") {
+        day::play(line, memory, sizes);
+        return true;
+    }
+    false
+}
+
+// The commands that answer by the file, likewise.
+fn ask_file(line: &[u8], memory: &mut [u8], sizes: &mut [usize]) -> bool {
+    if ask_files(line, memory, sizes) {
+        return true;
+    }
+    ask_forms(line, memory, sizes)
+}
+
 fn ask(line: &[u8], memory: &mut [u8], sizes: &mut [usize]) {
     if ask_tables(line, memory, sizes) {
         return;
     }
-    if says(line, b"try") {
-        attempt(line, memory, sizes);
+    if ask_changes(line, memory, sizes) {
         return;
     }
-    if ask_files(line, memory, sizes) {
-        return;
+    if !ask_file(line, memory, sizes) {
+        print(b" ?\n");
     }
-    if says(line, b"mark") {
-        marks::mark(memory, sizes);
-        return;
-    }
-    if says(line, b"play") {
-        day::play(line, memory, sizes);
-        return;
-    }
-    if ask_forms(line, memory, sizes) {
-        return;
-    }
-    print(b" ?\n");
 }
 
 fn step(line: &[u8], memory: &mut [u8], sizes: &mut [usize]) {

@@ -35,6 +35,8 @@ pub(crate) const RECORDS_AT: usize = 16;
 
 pub(crate) const TAIL_AT: usize = 496;
 
+const ACCOUNT_END: usize = TAIL_AT + 8;
+
 pub(crate) const CHECK_A_AT: usize = 508;
 
 pub(crate) const CHECK_B_AT: usize = 510;
@@ -151,13 +153,14 @@ fn head_fits(form: Form, block: &[u8]) -> bool
         & all_zero(&block[10..RECORDS_AT])
 }
 
-// Whether bytes 496 to 507 are an account's number, as far as the form keeps one, and zeros.
+// Whether bytes 496 to 507 are an account's number, as far as the form keeps one, and zeros: the number that
+// stands there is the one that is kept.
 fn tail_fits(form: Form, block: &[u8]) -> bool
     requires { ⌜ length (now block) ≡ 512 ⌝ }
     ensures { λ r. ⌜ r ≡ tailFits form (now (block .entry)) ⌝ }
 {
-    let tail = tail_bytes(account_of(form, block));
-    equal(&block[TAIL_AT..CHECK_A_AT], &tail)
+    let account = account_of(Form::New, block);
+    (account == kept_in(form, account)) & all_zero(&block[ACCOUNT_END..CHECK_A_AT])
 }
 
 // Whether all but numbering, records and checks is as it should be in a block of this form.

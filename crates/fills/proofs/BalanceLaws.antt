@@ -1,6 +1,6 @@
 -- Contracts are neither made nor lost: what each accepted fill opens or closes, summed by line and side.
 use Prim.Native.Nat.{ℕ, _+_, _≤_}
-use mathlib.Core.Path.{_≡_, refl, sym, _∙_}
+use mathlib.Core.Path.{_≡_, refl, _∙_}
 use mathlib.Core.Bool.{Bool, true, false, cond, _&&_, and-eq-true-iff}
 use mathlib.Core.List.{List, [], _∷_, _++_}
 use native.Mathlib.Decide.{decLe}
@@ -18,7 +18,7 @@ use Rattle.records.proofs.TableLaws.{within-true}
 use Rattle.fills.specs.Fills.{actionOf, isOpen, isClose, plainOf, fillLeg, goodPlain, goodFill}
 use Rattle.fills.specs.Rows.{heldOf, opened, closed, merged}
 use Rattle.fills.specs.Played.{numberOver, rowsAfter, playedOver}
-use Rattle.fills.specs.Ledger.{Ledger, emptyLedger, startedFrom, ledgerAfter, StandFor, Filled, Apart}
+use Rattle.fills.specs.Ledger.{Ledger, emptyLedger, startedFrom, ledgerAfter, StandFor, Apart}
 use Rattle.fills.specs.Balance.{acceptedOver, openedIn, closedIn}
 use Rattle.fills.specs.Demands.{ContractsKept}
 use Rattle.fills.proofs.LedgerLaws.{fill-good, fill-close, after-stands, start-stands, ledger-stands}

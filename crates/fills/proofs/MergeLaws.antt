@@ -9,10 +9,11 @@ use lib.Dec.{eqb, leb}
 use lib.ListN.{length}
 use borrow.Author.Tests.{le-leb, lt-leb}
 use Rattle.records.specs.Chunks.{chunkAt}
-use Rattle.records.specs.Legs.{contractsFrom, withContracts}
+use Rattle.records.specs.Legs.{mostContracts, contractsFrom, withContracts}
 use Rattle.records.specs.Lines.{sameLineSide, contractsOf}
 use Rattle.records.specs.Lists.{only, sumOf}
 use Rattle.records.specs.Order.{firstOf, refuse}
+use Rattle.records.specs.Tables.{mostLegs}
 use Rattle.records.specs.declared.legs.Leg.{Leg}
 use Rattle.records.specs.declared.refusals.Fault.{Fault}
 use Rattle.records.specs.declared.refusals.Fault.the-variants.{Nothing, Is}
@@ -117,12 +118,12 @@ merging-none xs rows h =
       asked = rw (starting-all xs);
     }
 
-past-good : (before ls l : List Leg) (i : ℕ) (x : Leg) → l ≡ x ∷ ls → contractsOf x before + x .contracts .0 ≤ 100000
+past-good : (before ls l : List Leg) (i : ℕ) (x : Leg) → l ≡ x ∷ ls → contractsOf x before + x .contracts .0 ≤ mostContracts
     → firstOf (askPast before i l) ≡ firstOf (askPast (before ++ x ∷ []) (i + 1) ls)
 unfolding askPast firstOf
 past-good before ls l i x e h = rw (e, le-leb _ _ h)
 
-past-bad : (before ls l : List Leg) (i : ℕ) (x : Leg) → l ≡ x ∷ ls → 100000 < contractsOf x before + x .contracts .0
+past-bad : (before ls l : List Leg) (i : ℕ) (x : Leg) → l ≡ x ∷ ls → mostContracts < contractsOf x before + x .contracts .0
     → firstOf (askPast before i l) ≡ Is (refuse 19 1 i)
 unfolding askPast firstOf
 past-bad before ls l i x e h = rw (e, lt-leb _ _ h)
@@ -132,28 +133,28 @@ unfolding askPast firstOf
 past-none before l i e = rw e
 
 -- what an opening's number says where there is room
-number-room : (held lines n : ℕ) → lines < 256 → openNumber held lines n ≡ cond (leb (held + n) 100000) 0 19
-number-room held lines n h = rw (lt-leb 256 lines h) (go (eqb held 0))
+number-room : (held lines n : ℕ) → lines < mostLegs → openNumber held lines n ≡ cond (leb (held + n) mostContracts) 0 19
+number-room held lines n h = rw (lt-leb mostLegs lines h) (go (eqb held 0))
   where
-    go : (b : Bool) → _≡_ {A = ℕ} (cond (b && false) 19 (cond (leb (held + n) 100000) 0 19)) (cond (leb (held + n) 100000) 0 19)
+    go : (b : Bool) → _≡_ {A = ℕ} (cond (b && false) 19 (cond (leb (held + n) mostContracts) 0 19)) (cond (leb (held + n) mostContracts) 0 19)
     go true = refl
     go false = refl
 
-number-fits : (held lines n : ℕ) → lines < 256 → openNumber held lines n ≡ 0 → held + n ≤ 100000
+number-fits : (held lines n : ℕ) → lines < mostLegs → openNumber held lines n ≡ 0 → held + n ≤ mostContracts
 number-fits held lines n h e =
-    elim (decLe (held + n) 100000) [
+    elim (decLe (held + n) mostContracts) [
       | yes k ↦ k
-      | no k ↦ let q : openNumber held lines n ≡ 19 = number-room held lines n h ∙ rw (lt-leb (held + n) 100000 (omega arith)) in absurd (omega (arith, e, q))
+      | no k ↦ let q : openNumber held lines n ≡ 19 = number-room held lines n h ∙ rw (lt-leb (held + n) mostContracts (omega arith)) in absurd (omega (arith, e, q))
     ]
 
-number-past : (held lines n : ℕ) → lines < 256 → (openNumber held lines n ≡ 0 → ⊥) → 100000 < held + n
+number-past : (held lines n : ℕ) → lines < mostLegs → (openNumber held lines n ≡ 0 → ⊥) → mostContracts < held + n
 number-past held lines n h e =
-    elim (decLe (held + n) 100000) [
-      | yes k ↦ let q : openNumber held lines n ≡ 0 = number-room held lines n h ∙ rw (le-leb (held + n) 100000 k) in absurd (e q)
+    elim (decLe (held + n) mostContracts) [
+      | yes k ↦ let q : openNumber held lines n ≡ 0 = number-room held lines n h ∙ rw (le-leb (held + n) mostContracts k) in absurd (e q)
       | no k ↦ omega arith
     ]
 
-module _ {xs rows : List ℕ} {n i : ℕ} (m : Merging xs rows n i) (x : Leg) (h : i < length xs / 32) (k : i < 256) (e : x ≡ unmarked (chunkAt 32 xs i))
+module _ {xs rows : List ℕ} {n i : ℕ} (m : Merging xs rows n i) (x : Leg) (h : i < length xs / 32) (k : i < mostLegs) (e : x ≡ unmarked (chunkAt 32 xs i))
     (bytes : List ℕ) (r : Posting)
     (p : Posted (openNumber (heldOf x (rowsIn rows n)) n (x .contracts .0)) (opened x (rowsIn rows n)) (rowsIn rows n) bytes r) where
   next : rowsFrom unmarked xs i ≡ x ∷ rowsFrom unmarked xs (i + 1)
@@ -165,7 +166,7 @@ module _ {xs rows : List ℕ} {n i : ℕ} (m : Merging xs rows n i) (x : Leg) (h
   pub merging-more : r .number ≡ 0 → Merging xs bytes (r .rows) (i + 1)
   merging-more z =
       let o : openNumber (heldOf x (rowsIn rows n)) n (x .contracts .0) ≡ 0 = sym (p .number) ∙ z in
-      let f : heldOf x (rowsIn rows n) + x .contracts .0 ≤ 100000 = number-fits _ n _ (omega (arith, m .few)) o in
+      let f : heldOf x (rowsIn rows n) + x .contracts .0 ≤ mostContracts = number-fits _ n _ (omega (arith, m .few)) o in
       let q : opened x (rowsIn rows n) ≡ merged (m .before ++ x ∷ []) = ap (opened x) (stand-rows (m .stand)) ∙ sym (merged-snoc (m .before) x) in
       let s : Stand bytes (r .rows) (merged (m .before ++ x ∷ [])) = rw (← q) (rw o at (p .stand)) in
       record {
@@ -183,7 +184,7 @@ module _ {xs rows : List ℕ} {n i : ℕ} (m : Merging xs rows n i) (x : Leg) (h
   pub merging-stop : (r .number ≡ 0 → ⊥) → Refused (refuse 19 1 i) ≡ mergedOf (startingLegs xs)
   unfolding mergedOf
   merging-stop z =
-      let f : 100000 < heldOf x (rowsIn rows n) + x .contracts .0 = number-past _ n _ (omega (arith, m .few)) (λ o. z (p .number ∙ o)) in
+      let f : mostContracts < heldOf x (rowsIn rows n) + x .contracts .0 = number-past _ n _ (omega (arith, m .few)) (λ o. z (p .number ∙ o)) in
       rw (m .asked ∙ past-bad (m .before) (rowsFrom unmarked xs (i + 1)) (rowsFrom unmarked xs i) i x next (omega (arith, now-held)))
 
 module _ {xs rows : List ℕ} {n i : ℕ} (m : Merging xs rows n i) (h : length xs / 32 ≤ i) where

@@ -9,18 +9,18 @@ use lib.Dec.{eqb, leb}
 use lib.ListN.{length, take, length-append}
 use borrow.Author.Tests.{leb-true, le-leb, eq-eqb, eqb-true}
 use Rattle.records.specs.Chunks.{chunks, recordsOf}
-use Rattle.records.specs.Legs.{legBytes, legOf, inRange, withContracts, withPaid}
+use Rattle.records.specs.Legs.{mostContracts, legBytes, legOf, inRange, withContracts, withPaid}
 use Rattle.records.specs.Lines.{sameLineSide, contractsOf}
 use Rattle.records.specs.Lists.{All}
 use Rattle.records.specs.Order.{Check, firstOf}
-use Rattle.records.specs.Tables.{goodRecord, tableChecks, fieldChecks, countedOf, wholeTable}
+use Rattle.records.specs.Tables.{mostLegs, goodRecord, tableChecks, fieldChecks, countedOf, wholeTable}
 use Rattle.records.specs.Written.{putAt}
 use Rattle.records.specs.declared.legs.Leg.{Leg}
 use Rattle.records.specs.declared.refusals.Fault.{Fault}
 use Rattle.records.specs.declared.refusals.Fault.the-variants.{Nothing, Is}
 use Rattle.records.specs.declared.tables.Kind.the-variants.{Holdings}
 use Rattle.records.specs.declared.tables.Counted.the-variants.{Records}
-use Rattle.records.proofs.LegLaws.{length-leg-bytes, leg-good}
+use Rattle.records.proofs.LegLaws.{contracts-range, paid-range, length-leg-bytes, leg-good}
 use Rattle.records.proofs.LineLaws.{line-sym}
 use Rattle.records.proofs.ListLaws.{map-all}
 use Rattle.records.proofs.PassLaws.{Pass, clear, unclear, pass-left, pass-right, pass-both, each-pass}
@@ -28,7 +28,7 @@ use Rattle.records.proofs.PutLaws.{put-front, put-past}
 use Rattle.records.proofs.TableLaws.{ranges, fields-good}
 use Rattle.records.proofs.ChunkLaws.{records-append, length-rows}
 use Rattle.fills.specs.Fills.{isOpen, fillLeg}
-use Rattle.fills.specs.Rows.{heldOf, more, fewer, opened, closed, mergedInto, merged, bytesOf, unmarked, startingLegs}
+use Rattle.fills.specs.Rows.{heldOf, fewer, opened, closed, mergedInto, merged, bytesOf, unmarked, startingLegs}
 use Rattle.fills.specs.Played.{openNumber, numberOver, rowsAfter, playedOver, refusedOver}
 use Rattle.fills.specs.Calls.{startChecks, askPast, roomChecks, playChecks, rowsPlayed, refusedIn, answered, playOf, left, indicesOf, numbersOf}
 use Rattle.fills.specs.Ledger.{Apart, Filled}
@@ -41,12 +41,12 @@ use Rattle.fills.proofs.LedgerLaws.{fill-range, fill-unpaid, fill-open,
 use Rattle.fills.proofs.MergeLaws.{held-merged, merged-snoc, length-opened}
 use Rattle.fills.proofs.PlayLaws.{Tabled, tables-clear}
 use Rattle.fills.proofs.RowLaws.{all-opened, all-closed, left-some, length-opened-is}
-use Rattle.fills.proofs.StandLaws.{length-bytes, one-record, legs-back, with-range, unpaid-range}
+use Rattle.fills.proofs.StandLaws.{length-bytes, one-record, legs-back}
 use Rattle.fills.proofs.UnpaidLaws.{unpaid, starting-is, unpaid-same, start-same}
 
 -- rows that make a table of holdings
 record Fine (rows : List Leg) : Type 0 where
-  pub few : length rows ≤ 256
+  pub few : length rows ≤ mostLegs
   pub good : All (λ l. inRange 0 l ≡ true) rows
   pub unpaid : All (λ l. l .paid ≡ 0) rows
 
@@ -56,17 +56,17 @@ filled (x ∷ xs) a = (ranges 0 x (a .0) .contracts .0, filled xs (a .1))
 
 -- ---- they stay so
 
-good-opened : (x : Leg) (rows : List Leg) → inRange 0 x ≡ true → heldOf x rows + x .contracts .0 ≤ 100000
+good-opened : (x : Leg) (rows : List Leg) → inRange 0 x ≡ true → heldOf x rows + x .contracts .0 ≤ mostContracts
     → All (λ l. inRange 0 l ≡ true) rows → All (λ l. inRange 0 l ≡ true) (opened x rows)
 good-opened x rows g h a =
     all-opened (λ l. inRange 0 l ≡ true) x rows
-    (λ y k e. with-range y (y .contracts .0 + x .contracts .0) k (omega (arith, ranges 0 x g .contracts .0)) (omega arith)) g a
+    (λ y k e. contracts-range 0 (y .contracts .0 + x .contracts .0) y k (omega (arith, ranges 0 x g .contracts .0)) (omega arith)) g a
 
 good-closed : (x : Leg) (rows : List Leg) → x .contracts .0 ≤ heldOf x rows
     → All (λ l. inRange 0 l ≡ true) rows → All (λ l. inRange 0 l ≡ true) (closed x rows)
 good-closed x rows h a =
     all-closed (λ l. inRange 0 l ≡ true) x rows
-    (λ y k e n. with-range y (y .contracts .0 - x .contracts .0) k (left-some (y .contracts .0) (x .contracts .0) (omega arith) n) (omega (arith, ranges 0 y k .contracts .1))) a
+    (λ y k e n. contracts-range 0 (y .contracts .0 - x .contracts .0) y k (left-some (y .contracts .0) (x .contracts .0) (omega arith) n) (omega (arith, ranges 0 y k .contracts .1))) a
 
 unpaid-opened : (x : Leg) (rows : List Leg) → x .paid ≡ 0 → All (λ l. l .paid ≡ 0) rows → All (λ l. l .paid ≡ 0) (opened x rows)
 unfolding withContracts
@@ -87,21 +87,21 @@ length-closed x (y ∷ ys) = go (sameLineSide x y) (eqb (y .contracts .0) (x .co
     go false s h = omega arith
 
 -- what an opening that is not refused says
-opens-fits : (held lines n : ℕ) → openNumber held lines n ≡ 0 → held + n ≤ 100000
-opens-fits held lines n e = go (eqb held 0 && leb 256 lines) e
+opens-fits : (held lines n : ℕ) → openNumber held lines n ≡ 0 → held + n ≤ mostContracts
+opens-fits held lines n e = go (eqb held 0 && leb mostLegs lines) e
   where
-    go : (b : Bool) → _≡_ {A = ℕ} (cond b 19 (cond (leb (held + n) 100000) 0 19)) 0 → held + n ≤ 100000
+    go : (b : Bool) → _≡_ {A = ℕ} (cond b 19 (cond (leb (held + n) mostContracts) 0 19)) 0 → held + n ≤ mostContracts
     go true q = absurd (omega (arith, q))
-    go false q = fits (leb (held + n) 100000) refl q
+    go false q = fits (leb (held + n) mostContracts) refl q
       where
-        fits : (b : Bool) → leb (held + n) 100000 ≡ b → _≡_ {A = ℕ} (cond b 0 19) 0 → held + n ≤ 100000
-        fits true k q = leb-true (held + n) 100000 k
+        fits : (b : Bool) → leb (held + n) mostContracts ≡ b → _≡_ {A = ℕ} (cond b 0 19) 0 → held + n ≤ mostContracts
+        fits true k q = leb-true (held + n) mostContracts k
         fits false k q = absurd (omega (arith, q))
 
-opens-room : (held lines n : ℕ) → openNumber held lines n ≡ 0 → held ≡ 0 → lines < 256
+opens-room : (held lines n : ℕ) → openNumber held lines n ≡ 0 → held ≡ 0 → lines < mostLegs
 opens-room held lines n e z =
-    elim (decLe 256 lines) [
-      | yes h ↦ let q : openNumber held lines n ≡ 19 = rw (eq-eqb held 0 z, le-leb 256 lines h) in absurd (omega (arith, e, q))
+    elim (decLe mostLegs lines) [
+      | yes h ↦ let q : openNumber held lines n ≡ 19 = rw (eq-eqb held 0 z, le-leb mostLegs lines h) in absurd (omega (arith, e, q))
       | no h ↦ omega arith
     ]
 
@@ -113,7 +113,7 @@ fine-opened x rows g u e f =
       unpaid = unpaid-opened x rows u (f .unpaid);
     }
   where
-    go : (b : Bool) → eqb (heldOf x rows) 0 ≡ b → length (opened x rows) ≡ length rows + (1 - cond b 0 1) → length (opened x rows) ≤ 256
+    go : (b : Bool) → eqb (heldOf x rows) 0 ≡ b → length (opened x rows) ≡ length rows + (1 - cond b 0 1) → length (opened x rows) ≤ mostLegs
     go true k o = omega (arith, o, opens-room (heldOf x rows) (length rows) (x .contracts .0) e (eqb-true (heldOf x rows) 0 k))
     go false k o = omega (arith, o, f .few)
 
@@ -161,7 +161,7 @@ started : (before rest : List Leg) (i : ℕ) → Started before → Pass (askPas
 unfolding askPast
 started before [] i s p a u = rw (append-nil before) s
 started before (x ∷ xs) i s p a u =
-    let h = leb-true (contractsOf x before + x .contracts .0) 100000 (p .0) in
+    let h = leb-true (contractsOf x before + x .contracts .0) mostContracts (p .0) in
     let g = good-opened x (merged before) (a .0) (omega (arith, held-merged x before)) (s .good) in
     let l : length (before ++ x ∷ []) ≡ length before + 1 = length-append before (x ∷ []) in
     let next : Started (before ++ x ∷ []) =
@@ -202,7 +202,7 @@ passed h f result indices numbers n k e = go (firstOf checks) refl e
 legs-good : (h : List ℕ) → firstOf (fieldChecks Holdings h) ≡ Nothing → All (λ l. inRange 0 l ≡ true) (startingLegs h)
 unfolding startingLegs unmarked
 legs-good h e =
-    map-all unmarked (λ l. inRange 0 l ≡ true) (λ r. goodRecord Holdings r ≡ true) (recordsOf h) (λ r g. unpaid-range (legOf r) (good-range r g))
+    map-all unmarked (λ l. inRange 0 l ≡ true) (λ r. goodRecord Holdings r ≡ true) (recordsOf h) (λ r g. paid-range 0 0 (legOf r) (good-range r g) (omega arith))
     (fields-good Holdings h e)
 
 each-unpaid : (rs : List (List ℕ)) → All (λ l. l .paid ≡ 0) (map unmarked rs)
@@ -254,7 +254,7 @@ records-good (x ∷ xs) a =
 whole-bytes : (rows : List Leg) → Fine rows → wholeTable Holdings (length (bytesOf rows)) ≡ true
 whole-bytes rows f =
     let l = length-bytes rows in
-    rw (eq-eqb (length (bytesOf rows) % 32) 0 (omega arith), le-leb (length (bytesOf rows) / 32) 256 (omega (arith, f .few)))
+    rw (eq-eqb (length (bytesOf rows) % 32) 0 (omega arith), le-leb (length (bytesOf rows) / 32) mostLegs (omega (arith, f .few)))
 
 table-sound : (rows : List Leg) → Fine rows → countedOf Holdings (bytesOf rows) ≡ Records (length rows)
 unfolding countedOf tableChecks fieldChecks
@@ -315,7 +315,7 @@ past-apart : (before rest : List Leg) (i : ℕ) → Apart (before ++ rest) → A
 unfolding askPast
 past-apart before [] i a g = tt
 past-apart before (x ∷ xs) i a g = (
-  le-leb (contractsOf x before + x .contracts .0) 100000
+  le-leb (contractsOf x before + x .contracts .0) mostContracts
       (omega (arith, contracts-apart x before (apart-front before xs x a), ranges 0 x (g .0) .contracts .1)),
   past-apart (before ++ x ∷ []) xs (i + 1) (rw (append-one before x xs) a) (g .1),
 )

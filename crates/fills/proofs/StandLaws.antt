@@ -1,18 +1,15 @@
 -- Rows that stand in a table of bytes: read, written, put at the end, taken out.
 use Prim.Native.Nat.{ℕ, suc, _+_, _-_, _*_, _≤_, _<_}
 use mathlib.Core.Path.{_≡_, refl, sym, ap, _∙_}
-use mathlib.Core.Bool.{Bool, true, _&&_, and-eq-true-iff}
+use mathlib.Core.Bool.{true}
 use mathlib.Core.List.{List, [], _∷_, _++_, append-assoc, append-nil}
 use native.Mathlib.Omega.{arith}
 use lib.ListN.{length, getD, take, drop, length-append, length-drop, take-append-drop}
 use lib.Seq.{take-at, drop-at, take-take, take-all, drop-cons, length-take-le}
-use borrow.Author.Tests.{le-leb}
-use Rattle.records.specs.Dates.{realDate}
 use Rattle.records.specs.Chunks.{chunks, chunkAt, recordsOf}
-use Rattle.records.specs.Legs.{contractsFrom, legOf, legBytes, inRange, withContracts, withPaid}
+use Rattle.records.specs.Legs.{legOf, legBytes, inRange}
 use Rattle.records.specs.Lists.{All}
-use Rattle.records.specs.Tables.{legsOf}
-use Rattle.records.specs.Within.{within}
+use Rattle.records.specs.Tables.{mostLegs, legsOf}
 use Rattle.records.specs.Written.{putAt}
 use Rattle.records.specs.declared.legs.Leg.{Leg}
 use Rattle.records.proofs.ChunkLaws.{records-append}
@@ -137,7 +134,7 @@ module _ {b : List ℕ} {n : ℕ} {rows : List Leg} (s : Stand b n rows) where
       }
 
   -- a row put at the end
-  pub stand-add : (l : Leg) → n < 256 → inRange 0 l ≡ true → Stand (putAt b (32 * n) (legBytes l)) (n + 1) (rows ++ l ∷ [])
+  pub stand-add : (l : Leg) → n < mostLegs → inRange 0 l ≡ true → Stand (putAt b (32 * n) (legBytes l)) (n + 1) (rows ++ l ∷ [])
   stand-add l h g =
       let k = length-leg-bytes l in
       let c : length (putAt b (32 * n) (legBytes l)) ≡ length b = length-putAt b (32 * n) (legBytes l) (omega (arith, s .room)) in
@@ -178,36 +175,3 @@ module _ {b : List ℕ} {n : ℕ} {rows : List Leg} (s : Stand b n rows) where
             (all-take (λ l. inRange 0 l ≡ true) i rows (s .good))
             (all-drop (λ l. inRange 0 l ≡ true) (suc i) rows (s .good));
       })
-
--- ---- ranges
-
--- a leg in its ranges with another count of contracts in its range
-others : Leg → Bool
-others l =
-    within 0 0 (l .group)
-    && within 1 2 (l .side)
-    && within 1 2 (l .right)
-    && within 1 2 (l .style)
-    && within 1 2 (l .market)
-    && within 1 1000 (l .size)
-    && within 1 4294967295 (l .underlying)
-    && within 1 99999999 (l .strike)
-    && realDate (l .expiry)
-
-pub with-range : (l : Leg) (n : ℕ) → inRange 0 l ≡ true → 1 ≤ n → n ≤ 100000 → inRange 0 (withContracts l (contractsFrom n)) ≡ true
-unfolding inRange withContracts others
-with-range l n e a b =
-    let m = and-eq-true-iff (others l && within 1 100000 (l .contracts .0) && within 0 2 (l .settlement)) (within 0 1 (l .paid)) .0 e in
-    let p = and-eq-true-iff (others l && within 1 100000 (l .contracts .0)) (within 0 2 (l .settlement)) .0 (m .0) in
-    let q : others l ≡ true = and-eq-true-iff (others l) (within 1 100000 (l .contracts .0)) .0 (p .0) .0 in
-    let r : within 0 2 (l .settlement) ≡ true = p .1 in
-    let s : within 0 1 (l .paid) ≡ true = m .1 in
-    rw (q, le-leb 1 n a, le-leb n 100000 b, r, s)
-
--- and without its mark
-pub unpaid-range : (l : Leg) → inRange 0 l ≡ true → inRange 0 (withPaid l 0) ≡ true
-unfolding inRange withPaid others
-unpaid-range l e =
-    let m = and-eq-true-iff (others l && within 1 100000 (l .contracts .0) && within 0 2 (l .settlement)) (within 0 1 (l .paid)) .0 e in
-    let p : (others l && within 1 100000 (l .contracts .0) && within 0 2 (l .settlement)) ≡ true = m .0 in
-    rw p

@@ -13,6 +13,15 @@ use native.Mathlib.Omega.{arith}
 use Rattle.records.specs.Bytes.{leAt, isZero, zeroIn}
 use Rattle.records.specs.Lists.{allOf}
 
+-- the lowest byte, and above it the others
+pub leAt-next : (xs : List ℕ) (at w : ℕ) → leAt xs at (suc w) ≡ getD xs at 0 + 256 * leAt xs (at + 1) w
+unfolding leAt
+leAt-next xs at w = refl
+
+pub leAt-none : (xs : List ℕ) (at : ℕ) → leAt xs at 0 ≡ 0
+unfolding leAt
+leAt-none xs at = refl
+
 -- the low m bytes, and above them the other n
 pub leAt-split : (xs : List ℕ) (m n at : ℕ) → leAt xs at (m + n) ≡ leAt xs at m + 256 ^ m * leAt xs (at + m) n
 unfolding leAt

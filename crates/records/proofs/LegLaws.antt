@@ -1,12 +1,15 @@
--- A leg's fields said in bytes, and read again.
-use Prim.Native.Nat.{ℕ, _+_, _*_, _/_, _%_, _<_}
+-- A leg's fields said in bytes, and read again; and its ranges, with another count of contracts or another paid mark.
+use Prim.Native.Nat.{ℕ, _+_, _*_, _/_, _%_, _≤_, _<_}
 use mathlib.Core.Path.{_≡_, refl}
-use mathlib.Core.Bool.{true}
+use mathlib.Core.Bool.{true, and-eq-true-iff}
 use native.Mathlib.Omega.{arith}
 use lib.ListN.{length}
+use borrow.Author.Tests.{le-leb}
 use Rattle.records.specs.Bytes.{leAt, leBytes, zeroIn}
 use Rattle.records.specs.Lists.{allOf}
-use Rattle.records.specs.Legs.{legFields, legOf, legBytes, inRange, goodLeg}
+use Rattle.records.specs.Within.{within}
+use Rattle.records.specs.Dates.{realDate}
+use Rattle.records.specs.Legs.{mostContracts, contractsFrom, withContracts, withPaid, legFields, legOf, legBytes, termsInRange, inRange, goodLeg}
 use Rattle.records.specs.declared.legs.Leg.{Leg}
 use Rattle.records.proofs.TableLaws.{Ranges, ranges}
 
@@ -54,3 +57,29 @@ filler-zero l = refl
 pub leg-good : (top : ℕ) (l : Leg) → top < 65536 → inRange top l ≡ true → goodLeg top (legBytes l) ≡ true
 unfolding goodLeg
 leg-good top l t e = rw (length-leg-bytes l, leg-back top l t e, e, filler-zero l)
+
+-- ---- a leg in its ranges stays in them
+
+parts : (top : ℕ) (l : Leg) → inRange top l ≡ true
+    → (termsInRange top l ≡ true) × (realDate (l .expiry) ≡ true) × (within 1 mostContracts (l .contracts .0) ≡ true) × (within 0 2 (l .settlement) ≡ true) × (within 0 1 (l .paid) ≡ true)
+unfolding inRange
+parts top l e =
+    let p = and-eq-true-iff _ _ .0 e in
+    let s = and-eq-true-iff _ _ .0 (p .0) in
+    let k = and-eq-true-iff _ _ .0 (s .0) in
+    let d = and-eq-true-iff _ _ .0 (k .0) in
+    (d .0, d .1, k .1, s .1, p .1)
+
+-- with another count of contracts in its range
+pub contracts-range : (top n : ℕ) (l : Leg) → inRange top l ≡ true → 1 ≤ n → n ≤ mostContracts → inRange top (withContracts l (contractsFrom n)) ≡ true
+unfolding inRange termsInRange withContracts
+contracts-range top n l e a b =
+    let p = parts top l e in
+    rw (p .0, p .1, le-leb 1 n a, le-leb n mostContracts b, p .3, p .4)
+
+-- with another paid mark in its range
+pub paid-range : (top mark : ℕ) (l : Leg) → inRange top l ≡ true → mark ≤ 1 → inRange top (withPaid l mark) ≡ true
+unfolding inRange termsInRange withPaid
+paid-range top mark l e a =
+    let p = parts top l e in
+    rw (p .0, p .1, p .2, p .3, le-leb 0 mark (omega arith), le-leb mark 1 a)

@@ -2,6 +2,7 @@ pub mod ListLaws
 pub mod Measures
 pub mod ByteLaws
 pub mod ChunkLaws
+pub mod JoinLaws
 pub mod PutLaws
 pub mod OrderLaws
 pub mod PassLaws

@@ -1,14 +1,13 @@
 -- Lines and sides are the same just where they are one value.
 use mathlib.Core.Path.{_≡_, refl, _∙_}
-use mathlib.Core.Bool.{Bool, true, false, _&&_, and-true, and-assoc}
+use mathlib.Core.Bool.{true, _&&_, and-true, and-assoc}
 use mathlib.Core.Logic.{_↔_}
-use mathlib.Core.List.{List}
 use Prim.Native.Nat.{ℕ}
 use lib.Dec.{eqb}
 use borrow.Author.Tests.{eq-eqb}
 use Rattle.records.specs.Legs.{withContracts, withPaid}
 use Rattle.records.specs.Lists.{same}
-use Rattle.records.specs.Lines.{lineOf, lineSideOf, sameLine, sameLineSide}
+use Rattle.records.specs.Lines.{lineSideOf, sameLine, sameLineSide}
 use Rattle.records.specs.declared.counts.Contracts.{Contracts}
 use Rattle.records.specs.declared.legs.Leg.{Leg}
 use Rattle.records.proofs.SameLaws.{same-refl, same-true, true-same, same-sym, same-swap}

@@ -60,6 +60,25 @@ module _ {A : Type 0} where
       go true e = omega arith
       go false e = omega arith
 
+  -- the values of those whose value passes are the values that pass
+  pub keep-map : {B : Type 0} (f : A → B) (t : B → Bool) (l : List A) → map f (keep (λ x. t (f x)) l) ≡ keep t (map f l)
+  unfolding keep
+  keep-map f t [] = refl
+  keep-map f t (x ∷ l) = rw (sym (keep-map f t l)) (go (t (f x)))
+    where
+      go : (b : Bool) → map f (cond b (x ∷ keep (λ y. t (f y)) l) (keep (λ y. t (f y)) l)) ≡ cond b (f x ∷ map f (keep (λ y. t (f y)) l)) (map f (keep (λ y. t (f y)) l))
+      go true = refl
+      go false = refl
+
+  pub keep-keep : (t : A → Bool) (l : List A) → keep t (keep t l) ≡ keep t l
+  unfolding keep
+  keep-keep t [] = refl
+  keep-keep t (x ∷ l) = go (t x) refl (keep-keep t l)
+    where
+      go : (b : Bool) → t x ≡ b → keep t (keep t l) ≡ keep t l → keep t (cond b (x ∷ keep t l) (keep t l)) ≡ cond b (x ∷ keep t l) (keep t l)
+      go true e k = rw (e, k)
+      go false e k = k
+
   -- ---- one element more
 
   pub keep-in : (t : A → Bool) (x : A) (l ls : List A) → l ≡ x ∷ ls → t x ≡ true → keep t l ≡ x ∷ keep t ls

@@ -1,7 +1,7 @@
 -- A table that passed its check: how long it is, and the bounds of each field of each leg and claim.
 use Prim.Native.Nat.{ℕ, _/_, _%_, _≤_, _<_}
 use mathlib.Core.Path.{_≡_}
-use mathlib.Core.Bool.{true, _&&_, and-eq-true-iff}
+use mathlib.Core.Bool.{true, and-eq-true-iff}
 use mathlib.Core.List.{List}
 use lib.Dec.{eqb, leb}
 use lib.ListN.{length}
@@ -9,11 +9,10 @@ use borrow.Author.Tests.{eqb-true, leb-true}
 use native.Mathlib.Nat.{mul-le-mul}
 use native.Mathlib.Omega.{arith}
 use Rattle.records.specs.Lists.{All}
-use Rattle.records.specs.Bytes.{zeroIn}
 use Rattle.records.specs.Chunks.{chunkAt, recordsOf}
 use Rattle.records.specs.Within.{within}
 use Rattle.records.specs.Dates.{realDate}
-use Rattle.records.specs.Legs.{legOf, inRange, goodLeg, units}
+use Rattle.records.specs.Legs.{mostContracts, legOf, termsInRange, inRange, goodLeg, units}
 use Rattle.records.specs.Claims.{mostMills, claimOf, goodClaim}
 use Rattle.records.specs.Order.{firstOf}
 use Rattle.records.specs.Tables.{goodRecord, limitOf, tableNumber, wholeTable, fieldChecks, legsOf, claimsOf}
@@ -39,7 +38,7 @@ pub record Ranges (top : ℕ) (l : Leg) : Type 0 where
   pub underlying : (1 ≤ l .underlying) × (l .underlying ≤ 4294967295)
   pub strike : (1 ≤ l .strike) × (l .strike ≤ 99999999)
   pub expiry : (20000101 ≤ l .expiry) × (l .expiry ≤ 20991231)
-  pub contracts : (1 ≤ l .contracts .0) × (l .contracts .0 ≤ 100000)
+  pub contracts : (1 ≤ l .contracts .0) × (l .contracts .0 ≤ mostContracts)
   pub settlement : l .settlement ≤ 2
   pub paid : l .paid ≤ 1
 
@@ -53,7 +52,7 @@ unfolding realDate
 date-true n e = within-true 20000101 20991231 n (and-eq-true-iff _ _ .0 e .0)
 
 pub ranges : (top : ℕ) (l : Leg) → inRange top l ≡ true → Ranges top l
-unfolding inRange
+unfolding inRange termsInRange
 ranges top l e =
     let p11 = and-eq-true-iff _ _ .0 e in
     let p10 = and-eq-true-iff _ _ .0 (p11 .0) in
@@ -76,7 +75,7 @@ ranges top l e =
       underlying = within-true 1 4294967295 (l .underlying) (p6 .1);
       strike = within-true 1 99999999 (l .strike) (p7 .1);
       expiry = date-true (l .expiry) (p8 .1);
-      contracts = within-true 1 100000 (l .contracts .0) (p9 .1);
+      contracts = within-true 1 mostContracts (l .contracts .0) (p9 .1);
       settlement = within-true 0 2 (l .settlement) (p10 .1) .1;
       paid = within-true 0 1 (l .paid) (p11 .1) .1;
     }

@@ -5,6 +5,7 @@ use mathlib.Core.List.{List, [], _∷_}
 use lib.Dec.{eqb}
 use lib.ListN.{getD, take, drop}
 use Rattle.records.specs.Lists.{allOf}
+use Rattle.records.specs.declared.fields.Four.{Four}
 
 -- the number whose bytes, lowest first, are the `width` entries of xs from `at` on; past the end of xs they are zero
 unfoldable pub leAt : List ℕ → ℕ → ℕ → ℕ
@@ -15,6 +16,10 @@ leAt xs at (suc width) = getD xs at 0 + 256 * leAt xs (at + 1) width
 unfoldable pub leBytes : ℕ → ℕ → List ℕ
 leBytes n zero = []
 leBytes n (suc width) = n % 256 ∷ leBytes (n / 256) width
+
+-- four bytes that stand together by value
+abbrev pub fourOf : Four → List ℕ
+fourOf f = f .0 ∷ f .1 ∷ f .2 ∷ f .3 ∷ []
 
 abbrev pub isZero : ℕ → Bool
 isZero x = eqb x 0

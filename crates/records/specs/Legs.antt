@@ -49,9 +49,13 @@ legBytes l =
     ++ (l .settlement ∷ l .paid ∷ [])
     ++ replicate 6 0
 
--- each field's range; the group is at most `top`
-unfoldable pub inRange : ℕ → Leg → Bool
-inRange top l =
+-- 'contracts, 1 to 100,000'; of a line and side that the day's fills leave, too: 'at most 100,000 contracts' (02, [4])
+abbrev pub mostContracts : ℕ
+mostContracts = 100000
+
+-- the ranges of the rows before the expiry; the group is at most `top`
+unfoldable pub termsInRange : ℕ → Leg → Bool
+termsInRange top l =
     within 0 top (l .group)
     && within 1 2 (l .side)
     && within 1 2 (l .right)
@@ -60,8 +64,13 @@ inRange top l =
     && within 1 1000 (l .size)
     && within 1 4294967295 (l .underlying)
     && within 1 99999999 (l .strike)
+
+-- each field's range
+unfoldable pub inRange : ℕ → Leg → Bool
+inRange top l =
+    termsInRange top l
     && realDate (l .expiry)
-    && within 1 100000 (l .contracts .0)
+    && within 1 mostContracts (l .contracts .0)
     && within 0 2 (l .settlement)
     && within 0 1 (l .paid)
 

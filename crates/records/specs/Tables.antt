@@ -23,10 +23,14 @@ tableNumber Holdings = 1
 tableNumber Placement = 2
 tableNumber Claims = 3
 
--- 'Holdings and placement have 0 to 256 records each, claims 0 to 32.'
+-- 'Holdings and placement have 0 to 256 records each, claims 0 to 32.' So many lines and sides may stand after the day's
+-- fills, too: '19, the 257th line and side' (02, [4])
+abbrev pub mostLegs : ℕ
+mostLegs = 256
+
 abbrev pub limitOf : Kind → ℕ
-limitOf Holdings = 256
-limitOf Placement = 256
+limitOf Holdings = mostLegs
+limitOf Placement = mostLegs
 limitOf Claims = 32
 
 abbrev pub inLimit : Kind → ℕ → Bool

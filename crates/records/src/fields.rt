@@ -2,7 +2,7 @@
 ghost use mathlib.Core.Path.{_≡_};
 ghost use Prim.Native.Nat.{_+_, _≤_, _<_};
 ghost use lib.ListN.{length};
-ghost use Rattle.records.specs.Bytes.{leAt};
+ghost use Rattle.records.specs.Bytes.{leAt, leBytes, fourOf};
 
 pub(crate) fn u8_in(part: &[u8], at: usize) -> u8
     requires { ⌜ at + 1 ≤ length (now part) ⌝ }
@@ -54,4 +54,19 @@ pub fn u16_at(part: &[u8], at: usize) -> u16
         return wide(part[at]);
     }
     u16_in(part, at)
+}
+
+// Four bytes, by value: a struct of bytes spares the proof an array.
+pub(crate) struct Four(pub(crate) u8, pub(crate) u8, pub(crate) u8, pub(crate) u8);
+
+// The bytes of a number, lowest first.
+pub(crate) fn u32_bytes(n: u32) -> Four
+    ensures { λ r. ⌜ fourOf r ≡ leBytes n 4 ⌝ }
+{
+    Four(
+        (n % 256) as u8,
+        (n / 256 % 256) as u8,
+        (n / 256 / 256 % 256) as u8,
+        (n / 256 / 256 / 256 % 256) as u8,
+    )
 }

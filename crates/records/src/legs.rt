@@ -2,14 +2,18 @@
 ghost use mathlib.Core.Path.{_≡_};
 ghost use Prim.Native.Nat.{_≤_};
 ghost use lib.ListN.{length};
+ghost use Rattle.records.specs.Bytes.{leBytes, fourOf};
 ghost use Rattle.records.specs.Chunks.{chunkAt};
-ghost use Rattle.records.specs.Legs.{legFields, legOf, legBytes, withContracts, withPaid, inRange, goodLeg};
+ghost use Rattle.records.specs.Legs.{legFields, legOf, legBytes, withContracts, withPaid, termsInRange, inRange, goodLeg};
 use crate::counts::Contracts;
 use crate::dates::real_date;
+use crate::fields::Four;
 use crate::fields::u8_in;
 use crate::fields::u16_in;
+use crate::fields::u32_bytes;
 use crate::fields::u32_in;
 use crate::fields::u64_in;
+use crate::limits::MOST_CONTRACTS;
 use crate::limits::RECORD_BYTES;
 use crate::within::is_within;
 
@@ -117,10 +121,31 @@ pub fn leg_at(table: &[u8], i: usize) -> Leg
     }
 }
 
+// The bytes of the fields that have four.
+struct WideFields {
+    underlying: Four,
+    strike: Four,
+    expiry: Four,
+    contracts: Four,
+}
+
+fn wide_fields(leg: Leg) -> WideFields
+    ensures { λ r. ⌜ (fourOf (r .underlying) ≡ leBytes (leg .underlying) 4) × (fourOf (r .strike) ≡ leBytes (leg .strike) 4) ⌝ }
+    ensures { λ r. ⌜ (fourOf (r .expiry) ≡ leBytes (leg .expiry) 4) × (fourOf (r .contracts) ≡ leBytes (leg .contracts .0) 4) ⌝ }
+{
+    WideFields {
+        underlying: u32_bytes(leg.underlying),
+        strike: u32_bytes(leg.strike),
+        expiry: u32_bytes(leg.expiry),
+        contracts: u32_bytes(leg.contracts.0),
+    }
+}
+
 // The 32 bytes that say a leg's fields; the filler is zero.
 pub fn leg_bytes(leg: Leg) -> [u8; 32]
     ensures { λ r. ⌜ r ≡ legBytes leg ⌝ }
 {
+    let wide = wide_fields(leg);
     [
         (leg.group % 256) as u8,
         (leg.group / 256 % 256) as u8,
@@ -130,22 +155,22 @@ pub fn leg_bytes(leg: Leg) -> [u8; 32]
         leg.market,
         (leg.size % 256) as u8,
         (leg.size / 256 % 256) as u8,
-        (leg.underlying % 256) as u8,
-        (leg.underlying / 256 % 256) as u8,
-        (leg.underlying / 256 / 256 % 256) as u8,
-        (leg.underlying / 256 / 256 / 256 % 256) as u8,
-        (leg.strike % 256) as u8,
-        (leg.strike / 256 % 256) as u8,
-        (leg.strike / 256 / 256 % 256) as u8,
-        (leg.strike / 256 / 256 / 256 % 256) as u8,
-        (leg.expiry % 256) as u8,
-        (leg.expiry / 256 % 256) as u8,
-        (leg.expiry / 256 / 256 % 256) as u8,
-        (leg.expiry / 256 / 256 / 256 % 256) as u8,
-        (leg.contracts.0 % 256) as u8,
-        (leg.contracts.0 / 256 % 256) as u8,
-        (leg.contracts.0 / 256 / 256 % 256) as u8,
-        (leg.contracts.0 / 256 / 256 / 256 % 256) as u8,
+        wide.underlying.0,
+        wide.underlying.1,
+        wide.underlying.2,
+        wide.underlying.3,
+        wide.strike.0,
+        wide.strike.1,
+        wide.strike.2,
+        wide.strike.3,
+        wide.expiry.0,
+        wide.expiry.1,
+        wide.expiry.2,
+        wide.expiry.3,
+        wide.contracts.0,
+        wide.contracts.1,
+        wide.contracts.2,
+        wide.contracts.3,
         leg.settlement,
         leg.paid,
         0,
@@ -157,8 +182,8 @@ pub fn leg_bytes(leg: Leg) -> [u8; 32]
     ]
 }
 
-fn in_range(top: u16, leg: Leg) -> bool
-    ensures { λ r. ⌜ r ≡ inRange top leg ⌝ }
+fn terms_in_range(top: u16, leg: Leg) -> bool
+    ensures { λ r. ⌜ r ≡ termsInRange top leg ⌝ }
 {
     is_within(0, top as u32, leg.group as u32)
         & is_within(1, 2, leg.side as u32)
@@ -168,10 +193,19 @@ fn in_range(top: u16, leg: Leg) -> bool
         & is_within(1, 1000, leg.size as u32)
         & is_within(1, 4294967295, leg.underlying)
         & is_within(1, 99999999, leg.strike)
-        & real_date(leg.expiry)
-        & is_within(1, 100000, leg.contracts.number())
-        & is_within(0, 2, leg.settlement as u32)
-        & is_within(0, 1, leg.paid as u32)
+}
+
+// The date takes the longest, and is looked at only where all before it is right.
+fn in_range(top: u16, leg: Leg) -> bool
+    ensures { λ r. ⌜ r ≡ inRange top leg ⌝ }
+{
+    if terms_in_range(top, leg) {
+        return real_date(leg.expiry)
+            & is_within(1, MOST_CONTRACTS, leg.contracts.number())
+            & is_within(0, 2, leg.settlement as u32)
+            & is_within(0, 1, leg.paid as u32);
+    }
+    false
 }
 
 // Whether the part is a leg record with each field in its range and a group of at most `top`. The filler is zero

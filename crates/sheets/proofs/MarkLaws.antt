@@ -1,18 +1,18 @@
 -- The pass record by record, as a loop that has passed those before record i knows it; and what it does to the legs.
 use mathlib.Core.Path.{_≡_, refl, sym, ap, _∙_}
-use mathlib.Core.Bool.{Bool, true, false, cond, not, _&&_, and-eq-true-iff, false≢true}
-use mathlib.Core.List.{List, [], _∷_, _++_, map, append-assoc}
-use Prim.Native.Nat.{ℕ, zero, suc, _+_, _-_, _*_, _/_, _≤_, _<_}
-use native.Mathlib.Nat.{mul-add, mul-one, mul-zero, mul-suc, sub-zero}
+use mathlib.Core.Bool.{Bool, true, false, cond}
+use mathlib.Core.List.{List, [], _∷_, _++_, append-assoc}
+use Prim.Native.Nat.{ℕ, suc, _+_, _-_, _*_, _/_, _≤_, _<_}
+use native.Mathlib.Nat.{mul-add, mul-one, mul-zero, sub-zero}
 use native.Mathlib.Omega.{arith}
 use lib.ListN.{length, set, take, drop, length-append, length-set, length-take, length-drop}
-use lib.Seq.{take-at, drop-at, take-all, drop-drop}
+use lib.Seq.{take-all, drop-drop}
 use borrow.Rule.Slice.PartMut.{putMid}
-use Rattle.records.specs.Chunks.{chunks, chunkAt, recordsOf}
+use Rattle.records.specs.Chunks.{chunkAt}
 use Rattle.records.specs.Legs.{legOf}
 use Rattle.records.specs.Lists.{only, sumOf}
 use Rattle.records.specs.Order.{firstOf}
-use Rattle.records.specs.Tables.{tableChecks, counted, countedOf, legsOf}
+use Rattle.records.specs.Tables.{tableChecks, counted, countedOf}
 use Rattle.records.specs.Written.{putAt}
 use Rattle.records.specs.declared.refusals.Fault.{Fault}
 use Rattle.records.specs.declared.refusals.Fault.the-variants.{Nothing, Is}

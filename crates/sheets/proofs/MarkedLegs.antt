@@ -1,7 +1,7 @@
 -- What the pass does to the legs of a placement, and to a sheet that kept the old rule.
 use mathlib.Core.Path.{_≡_, refl, sym, ap, _∙_}
 use mathlib.Core.Bool.{Bool, true, false, cond, not, _&&_, and-false, and-eq-true-iff, false≢true}
-use mathlib.Core.List.{List, [], _∷_, _++_, map}
+use mathlib.Core.List.{List, [], _∷_, map}
 use mathlib.Core.Logic.{_≢_}
 use Prim.Native.Nat.{ℕ, zero, suc, _+_, _*_, _/_, _≤_, _<_}
 use native.Mathlib.Omega.{arith}
@@ -9,21 +9,20 @@ use lib.Dec.{eqb}
 use lib.ListN.{length, set, take, drop, length-append, length-set, length-take, length-drop}
 use lib.Seq.{take-at, drop-at, drop-set-lt, getD-set-same, getD-set-other}
 use borrow.Author.Tests.{le-leb, eqb-true, eq-eqb, ne-eqb}
+use Rattle.records.proofs.LegLaws.{paid-range}
 use Rattle.records.specs.Bytes.{leAt, zeroIn}
 use Rattle.records.specs.Chunks.{chunks, recordsOf}
-use Rattle.records.specs.Dates.{realDate}
 use Rattle.records.specs.Legs.{legFields, legOf, isLong, isShort, isPaid, withPaid, inRange, goodLeg}
 use Rattle.records.specs.Lines.{sameLineSide, contractsOf}
 use Rattle.records.specs.Lists.{All, only, sumOf, keep}
 use Rattle.records.specs.Tables.{goodRecord, legsOf}
-use Rattle.records.specs.Within.{within}
 use Rattle.records.specs.declared.claims.Claim.{Claim}
 use Rattle.records.specs.declared.legs.Leg.{Leg}
 use Rattle.records.specs.declared.tables.Kind.the-variants.{Placement}
 use Rattle.records.proofs.ChunkLaws.{chunks-whole}
 use Rattle.records.proofs.ListLaws.{map-all}
 use Rattle.spreads.specs.Spreads.{groupOf}
-use Rattle.sheets.specs.Demands.{Sound, PassMarks, PassTwice, PassSound}
+use Rattle.sheets.specs.Demands.{PassMarks, PassTwice, PassSound}
 use Rattle.sheets.specs.Marks.{markedLeg, markedRecord, markedFirst, markedPlacement, markOn, marksIn}
 use Rattle.sheets.specs.Sheets.{unpaidLong, OldRule, SheetRule}
 use Rattle.sheets.proofs.MarkLaws.{length-record}
@@ -156,34 +155,13 @@ pass-twice p = (
 
 -- ---- the table stays sound
 
--- the other fields in their ranges
-others : Leg → Bool
-others l =
-    within 0 32 (l .group)
-    && within 1 2 (l .side)
-    && within 1 2 (l .right)
-    && within 1 2 (l .style)
-    && within 1 2 (l .market)
-    && within 1 1000 (l .size)
-    && within 1 4294967295 (l .underlying)
-    && within 1 99999999 (l .strike)
-    && realDate (l .expiry)
-    && within 1 100000 (l .contracts .0)
-    && within 0 2 (l .settlement)
-
-mark-range : (l : Leg) → inRange 32 l ≡ true → inRange 32 (withPaid l 1) ≡ true
-unfolding inRange withPaid others
-mark-range l e =
-    let a : others l ≡ true = and-eq-true-iff (others l) (within 0 1 (l .paid)) .0 e .0 in
-    rw a
-
 set-good : (r : List ℕ) → goodLeg 32 r ≡ true → goodLeg 32 (set r 25 1) ≡ true
 unfolding goodLeg zeroIn
 set-good r g =
     let p = and-eq-true-iff (eqb (length r) 32) _ .0 g in
     let s = eqb-true (length r) 32 (p .0) in
     let q = and-eq-true-iff (inRange 32 (legOf r)) _ .0 (p .1) in
-    let range : inRange 32 (legOf (set r 25 1)) ≡ true = rw (mark-fields r s) (mark-range (legOf r) (q .0)) in
+    let range : inRange 32 (legOf (set r 25 1)) ≡ true = rw (mark-fields r s) (paid-range 32 1 (legOf r) (q .0) (omega arith)) in
     rw (length-set r 25 1, p .0, range, drop-set-lt 26 r 25 1 (omega arith)) (q .1)
 
 record-good : (r : List ℕ) → goodRecord Placement r ≡ true → goodRecord Placement (markedRecord r) ≡ true

@@ -1,6 +1,6 @@
 -- A group fit for a cash account: the facts and the check, the check as the code makes it, and the call's answers.
 use Prim.Native.Nat.{ℕ, _≤_, _<_}
-use mathlib.Core.Path.{_≡_, refl, sym, ap, _∙_}
+use mathlib.Core.Path.{_≡_, refl, sym, _∙_}
 use mathlib.Core.Bool.{true, false, _&&_, and-eq-true-iff}
 use mathlib.Core.List.{List, [], _∷_, _++_}
 use native.Mathlib.Omega.{arith}
@@ -8,9 +8,9 @@ use lib.Dec.{eqb}
 use lib.IntN.{pos}
 use lib.ListN.{length, drop, getD}
 use borrow.Author.Tests.{eqb-true, eq-eqb}
-use Rattle.records.specs.Lists.{allOf, All}
+use Rattle.records.specs.Lists.{allOf}
 use Rattle.records.specs.Legs.{isEuropean, isCash}
-use Rattle.records.specs.Order.{Check, ask, refuse, firstOf}
+use Rattle.records.specs.Order.{ask, refuse, firstOf}
 use Rattle.records.specs.Tables.{tableChecks, legsOf}
 use Rattle.records.specs.declared.legs.Leg.{Leg}
 use Rattle.records.specs.declared.tables.Kind.the-variants.{Placement}

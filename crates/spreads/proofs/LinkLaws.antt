@@ -1,13 +1,12 @@
 -- The records of a placement linked by their groups: one record more, from the last on, and a group's places along its links.
 use Prim.Native.Nat.{ℕ, _+_, _/_, _≤_, _<_}
 use mathlib.Core.Path.{_≡_, refl, sym, ap, _∙_}
-use mathlib.Core.Bool.{true, false, cond}
 use mathlib.Core.List.{List, [], _∷_, _++_, map-append, append-assoc, append-nil}
 use native.Mathlib.Numerals.{add-one}
 use native.Mathlib.Decide.{decLe, ℕ-discrete}
 use native.Mathlib.Omega.{arith}
-use lib.Dec.{eqb, leb}
-use lib.ListN.{length, take, drop, set, getD, replicate, length-set, length-replicate, getD-replicate, List·getD-map, drop-of-length-le}
+use lib.Dec.{eqb}
+use lib.ListN.{length, take, drop, set, getD, length-set, length-replicate, getD-replicate, List·getD-map, drop-of-length-le}
 use lib.Seq.{drop-cons, take-suc-set, getD-set-same, getD-set-other}
 use borrow.Author.Tests.{eq-eqb, ne-eqb, le-leb, lt-leb}
 use Rattle.records.specs.Lists.{All, keep}

@@ -1,5 +1,5 @@
 -- The text of a file's table, by the verdict on it and by its tables as they were copied.
-use mathlib.Core.Path.{_≡_, sym, _∙_}
+use mathlib.Core.Path.{_≡_}
 use mathlib.Core.List.{List}
 use Prim.Native.Nat.{ℕ, _/_, _≤_}
 use lib.IntN.{ℤ}

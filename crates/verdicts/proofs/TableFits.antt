@@ -12,7 +12,6 @@ use Rattle.records.specs.Tables.{legsOf}
 use Rattle.records.specs.declared.legs.Leg.{Leg}
 use Rattle.records.proofs.ListLaws.{every, map-all}
 use Rattle.records.proofs.Measures.{only-le, sum-bound}
-use Rattle.records.proofs.TableLaws.{Ranges}
 use Rattle.spreads.specs.Prices.{net}
 use Rattle.spreads.specs.Spreads.{groupOf, groupIn}
 use Rattle.spreads.specs.Steps.{Checked, strikesEnd}
@@ -25,7 +24,7 @@ use Rattle.spreads.proofs.Inserting as inserted
 use Rattle.spreads.proofs.Signed.{abs-minus}
 use Rattle.spreads.proofs.StrikeLaws.{strikes-small}
 use Rattle.sheets.proofs.Groups.{total, total-ext, by-group-upto}
-use Rattle.verdicts.specs.Printed.{decimalOf, amountOf}
+use Rattle.verdicts.specs.Printed.{amountOf}
 use Rattle.verdicts.specs.TableText.{shownOf, shownIn, groupLine, strikeLine, strikeLines, groupText, shownText}
 use Rattle.verdicts.proofs.DecimalLaws.{decimal-short}
 use Rattle.verdicts.proofs.ShownLaws.{length-group-line, length-strike-line, shown-suc}

@@ -1,7 +1,11 @@
 -- What the steps of the calls rely on, for the contracts of functions that are not public.
 use mathlib.Core.Path.{_≡_}
-use mathlib.Core.List.{List}
+use mathlib.Core.List.{List, flatten}
 use Prim.Native.Nat.{ℕ}
+use lib.Dec.{eqb}
+use Rattle.records.specs.Chunks.{recordsOf}
+use Rattle.records.specs.Legs.{legOf}
+use Rattle.records.specs.Lists.{keep}
 use Rattle.records.specs.Order.{firstOf}
 use Rattle.records.specs.declared.refusals.Fault.the-variants.{Nothing}
 use Rattle.blocks.specs.File.{originIn}
@@ -21,6 +25,10 @@ HasRecords file n = judged file ≡ Read n (originIn file)
 -- the calls of group g refuse nothing of this placement
 abbrev pub Answered : List ℕ → ℕ → Type 0
 Answered placement g = firstOf (groupChecks placement g) ≡ Nothing
+
+-- the records of group g, one after the other: a table of that group alone
+unfoldable pub groupTable : List ℕ → ℕ → List ℕ
+groupTable placement g = flatten (keep (λ r. eqb (legOf r .group) g) (recordsOf placement))
 
 -- the lines under the margin of group g
 abbrev pub worksheetLines : List ℕ → ℕ → List ℕ

@@ -9,7 +9,7 @@ ghost use Rattle.spreads.specs.Spreads.{groupIn};
 ghost use Rattle.spreads.specs.Boxes.{marginOf};
 ghost use Rattle.verdicts.specs.Printed.{Piece};
 ghost use Rattle.verdicts.specs.TableText.{groupLine, groupText, shownIn, shownOf, shownText, strikeLine, strikeLines, tableText};
-ghost use Rattle.verdicts.specs.Steps.{Answered, HasRecords, ShownBy, worksheetLines};
+ghost use Rattle.verdicts.specs.Steps.{Answered, HasRecords, ShownBy, groupTable, worksheetLines};
 use crate::file::check_copied;
 use crate::line::refuse_line;
 use crate::pieces::put_amount;
@@ -75,18 +75,53 @@ fn put_worksheet(placement: &[u8], g: usize, out: &mut [u8], at: usize) -> usize
     }
 }
 
-fn put_group(placement: &[u8], g: usize, margin: u64, out: &mut [u8], at: usize) -> usize
+// The records of group g, one after the other from byte 0 of a lent table on, and how many bytes they are.
+fn copy_group(placement: &[u8], g: usize, table: &mut [u8]) -> usize
+    requires { ⌜ length (now placement) ≤ length (now table) ⌝ }
+    ensures { λ r. ⌜ Piece (now (table .entry)) 0 (groupTable (now (placement .entry)) g) r (now (table .exit)) ⌝ }
+{
+    let n = placement.len() / RECORD_BYTES;
+    let mut next: usize = 0;
+    let mut place: usize = 0;
+    while place < n {
+        if records::leg_at(placement, place).group as usize == g {
+            let at = RECORD_BYTES * place;
+            let end = at + RECORD_BYTES;
+            next = put_text(&placement[at..end], table, next);
+        }
+        place += 1;
+    }
+    next
+}
+
+// The worksheet is asked for of a table of the group's records alone: the call looks at every record that it is given.
+fn put_group(
+    placement: &[u8],
+    g: usize,
+    margin: u64,
+    table: &mut [u8],
+    out: &mut [u8],
+    at: usize,
+) -> usize
     requires { ⌜ Answered (now placement) g × (margin ≡ marginOf (groupIn (now placement) g)) ⌝ }
+    requires { ⌜ length (now placement) ≤ length (now table) ⌝ }
     requires { ⌜ at + length (groupText (shownOf g (groupIn (now placement) g))) ≤ length (now out) ⌝ }
     ensures { λ r. ⌜ Piece (now (out .entry)) at (groupText (shownOf g (groupIn (now (placement .entry)) g))) r (now (out .exit)) ⌝ }
 {
     let first = put_group_line(g as u64, margin, out, at);
-    put_worksheet(placement, g, out, first)
+    let bytes = copy_group(placement, g, table);
+    put_worksheet(&table[..bytes], g, out, first)
 }
 
-// Every group of an accepted sheet, whose claims are the margins.
-fn put_groups(placement: &[u8], claims: &[u8], out: &mut [u8; TABLE_BYTES]) -> usize
+// Every group of an accepted sheet, whose claims are the margins. The lent table has room for the records of each.
+fn put_groups(
+    placement: &[u8],
+    claims: &[u8],
+    table: &mut [u8],
+    out: &mut [u8; TABLE_BYTES],
+) -> usize
     requires { ⌜ ShownBy (now placement) (now claims) ⌝ }
+    requires { ⌜ length (now placement) ≤ length (now table) ⌝ }
     ensures { λ r. ⌜ Piece (now (out .entry)) 0 (shownText (shownIn (length (now (claims .entry)) / 32) (legsOf (now (placement .entry))))) r (now (out .exit)) ⌝ }
 {
     let n = claims.len() / RECORD_BYTES;
@@ -94,13 +129,14 @@ fn put_groups(placement: &[u8], claims: &[u8], out: &mut [u8; TABLE_BYTES]) -> u
     let mut k: usize = 0;
     while k < n {
         let claim = records::claim_at(claims, k);
-        next = put_group(placement, k + 1, claim.margin, out, next);
+        next = put_group(placement, k + 1, claim.margin, table, out, next);
         k += 1;
     }
     next
 }
 
-// The text of a file without a fault, by its tables.
+// The text of a file without a fault, by its tables. Once the sheet is judged the table of the holdings is free for the
+// records of a group, so that no more is cleared.
 fn read_table(counts: Counts, file: &[u8], out: &mut [u8; TABLE_BYTES]) -> usize
     requires { ⌜ HasRecords (now file) counts ⌝ }
     ensures { λ r. ⌜ Piece (now (out .entry)) 0 (tableText (now (file .entry))) r (now (out .exit)) ⌝ }
@@ -112,7 +148,7 @@ fn read_table(counts: Counts, file: &[u8], out: &mut [u8; TABLE_BYTES]) -> usize
     let c = RECORD_BYTES * counts.claims;
     match check_copied(counts, file, &mut holdings, &mut placement, &mut claims) {
         Verdict::Refused(refusal) => refuse_line(refusal, out),
-        Verdict::Accepted(_, _) => put_groups(&placement[..p], &claims[..c], out),
+        Verdict::Accepted(_, _) => put_groups(&placement[..p], &claims[..c], &mut holdings, out),
     }
 }
 

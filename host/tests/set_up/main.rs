@@ -12,8 +12,8 @@ use std::process::{Command, Stdio};
 
 use scripts::{put_script, put_tools, told, Folder, Told};
 
-const TOOLS: [&str; 11] =
-    ["awk", "bash", "cat", "cp", "dirname", "env", "mktemp", "rm", "sed", "tail", "tee"];
+const TOOLS: [&str; 12] =
+    ["awk", "bash", "cat", "cp", "dirname", "env", "mktemp", "nproc", "rm", "sed", "tail", "tee"];
 const PACKAGES: &str = "cargo rustc gcc g++ libc6-dev";
 const CARGO: &str = "case \"$*\" in\n\
                      --version) echo cargo 1 ;;\n\
@@ -38,6 +38,10 @@ impl Machine {
         }
         put_tools(&machine.beside("tools"), &TOOLS);
         put_script(&machine.beside("clone/check-sheet"), "echo ACCEPT 2 1500000");
+        put_script(
+            &machine.beside("clone/.ci/edits"),
+            &machine.told_to("edits", "echo '4 passed, 0 failed'"),
+        );
         machine.put("uname", "echo x86_64");
         machine.put("id", "echo 0");
         machine.put("rt", &machine.told_to("rt", "[ \"$1\" != ci ] || echo '3 passed, 0 failed'"));
@@ -114,10 +118,13 @@ fn with_all_there_nothing_is_installed_and_everything_counted() {
     let machine = Machine::whole("whole");
     assert_eq!(
         ending(&machine.gate()),
-        ("10 passed, 0 failed", 0, ""),
-        "3 proved, 6 tested, README's command"
+        ("14 passed, 0 failed", 0, ""),
+        "3 proved, 4 edits refused, 6 tested, README's command"
     );
-    assert_eq!(machine.asked(), ["rt ci", "rt staticlib usm_c"]);
+    assert_eq!(machine.asked(), ["rt ci", "edits ", "rt staticlib usm_c"]);
+    fs::remove_file(machine.tool("nproc")).expect("it was there");
+    assert_eq!(ending(&machine.gate()), ("14 passed, 0 failed", 0, ""), "nobody says how many processors");
+    assert_eq!(machine.asked()[3..], ["rt ci", "edits ", "rt staticlib usm_c"]);
 }
 
 #[test]
@@ -132,9 +139,9 @@ fn without_the_toolchain_one_line_says_what_is_needed() {
 fn root_gets_what_is_missing_installed_before_anything_is_proved() {
     let machine = Machine::without("root", &["cargo", "rustc", "cc", "c++"]);
     let message = format!("x86-cargo: installing {PACKAGES}\n");
-    assert_eq!(ending(&machine.gate()), ("10 passed, 0 failed", 0, message.as_str()));
+    assert_eq!(ending(&machine.gate()), ("14 passed, 0 failed", 0, message.as_str()));
     let install = format!("apt-get install -y --no-install-recommends {PACKAGES}");
-    assert_eq!(machine.asked(), ["apt-get update", &install, "rt ci", "rt staticlib usm_c"]);
+    assert_eq!(machine.asked(), ["apt-get update", &install, "rt ci", "edits ", "rt staticlib usm_c"]);
 }
 
 /// A compiler without headers and a cargo without a toolchain are as good as none.
@@ -221,11 +228,14 @@ fn the_last_line_counts_what_failed() {
     assert_eq!(failing("rt-3", "rt", "echo '2 passed, 0 failed'; exit 3"), count("2 passed, 1 failed", 1));
     assert_eq!(
         failing("library", "rt", "[ \"$1\" = ci ] && echo '2 passed, 0 failed'"),
-        count("2 passed, 1 failed", 1)
+        count("6 passed, 1 failed", 1)
     );
     let one_fails = CARGO.replace("ok. 2 passed; 0 failed;", "FAILED. 1 passed; 1 failed;");
-    assert_eq!(failing("tests", "cargo", &one_fails), count("7 passed, 3 failed", 1));
+    assert_eq!(failing("tests", "cargo", &one_fails), count("10 passed, 3 failed", 1));
+    let machine = Machine::whole("edits");
+    put_script(&machine.beside("clone/.ci/edits"), "echo '3 passed, 1 failed'; exit 1");
+    assert_eq!(ending(&machine.gate()), ("6 passed, 1 failed", 1, ""), "an edit that is not refused");
     let machine = Machine::whole("second-command");
     put_script(&machine.beside("clone/check-sheet"), "echo ACCEPT 2 1");
-    assert_eq!(ending(&machine.gate()), ("9 passed, 1 failed", 1, ""));
+    assert_eq!(ending(&machine.gate()), ("13 passed, 1 failed", 1, ""));
 }

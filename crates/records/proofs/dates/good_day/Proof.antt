@@ -1,5 +1,4 @@
 use borrow.Author.Needs.{needs}
-use mathlib.Core.Path.{sym}
 use Rattle.records.proofs.DateLaws.{short-day}
 use Rattle.records.proofs.dates.good_day.Statement.{statement}
 use Rattle.records.proofs.dates.good_day.Tie as tie

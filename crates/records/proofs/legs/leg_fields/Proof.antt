@@ -1,5 +1,5 @@
+use native.Mathlib.Omega.{arith}
 use Rattle.records.specs.Legs.{legFields}
-use borrow.Author.Needs.{needs}
 use Rattle.records.proofs.legs.leg_fields.Statement.{statement}
 use Rattle.records.proofs.legs.leg_fields.Tie as tie
 
@@ -27,16 +27,16 @@ pub leg-fields-spec : {M : Type 1} → statement M
 leg-fields-spec =
     tie.close
     (tie.spec
-    (λ c κs. search needs)
-    (λ c κs. search needs)
-    (λ c κs. search needs)
-    (λ c κs. search needs)
-    (λ c κs. search needs)
-    (λ c κs. search needs)
-    (λ c κs. search needs)
-    (λ c κs. search needs)
-    (λ c κs. search needs)
-    (λ c κs. search needs)
-    (λ c κs. search needs)
-    (λ c κs. search needs)
+    (λ c κs. omega arith)
+    (λ c κs. omega arith)
+    (λ c κs. omega arith)
+    (λ c κs. omega arith)
+    (λ c κs. omega arith)
+    (λ c κs. omega arith)
+    (λ c κs. omega arith)
+    (λ c κs. omega arith)
+    (λ c κs. omega arith)
+    (λ c κs. omega arith)
+    (λ c κs. omega arith)
+    (λ c κs. omega arith)
     returns)

@@ -1,6 +1,5 @@
 use Rattle.sheets.specs.Links.{digitsOf}
 use mathlib.Core.Path.{refl}
-use native.Mathlib.Omega.{arith}
 use borrow.Author.Needs.{needs}
 use Rattle.sheets.proofs.links.digits_of.Statement.{statement}
 use Rattle.sheets.proofs.links.digits_of.Tie as tie

@@ -1,7 +1,7 @@
 use Prim.Native.Nat.{_+_, _-_, _/_, _≤_}
 use mathlib.Core.Path.{_≡_, refl, sym, ap, _∙_}
 use native.Mathlib.Omega.{arith}
-use lib.ListN.{length, length-set, length-replicate}
+use lib.ListN.{length, length-set}
 use borrow.Author.Needs.{needs}
 use Rattle.spreads.specs.Steps.{Checked}
 use Rattle.spreads.specs.Links.{Linked}

@@ -2,13 +2,12 @@ use Rattle.verdicts.proofs.Worksheets.{strikes-few, entries-are, never-
 use Rattle.spreads.specs.Spreads.{groupIn}
 use Rattle.spreads.specs.Strikes.{strikesOf, netsOf}
 use Rattle.records.specs.declared.legs.Leg.{Leg}
-use native.Mathlib.Omega.{arith}
 use lib.ListN.{length, take}
 use lib.Seq.{length-take-le}
 use denote.Ref.{now}
 use mathlib.Core.Path.{_≡_, sym, _∙_}
 use mathlib.Core.List.{List}
-use Prim.Native.Nat.{ℕ, _≤_}
+use Prim.Native.Nat.{_≤_}
 use borrow.Author.Needs.{needs}
 use Rattle.verdicts.proofs.table.put_worksheet.Statement.{statement}
 use Rattle.verdicts.proofs.table.put_worksheet.Tie as tie

@@ -61,8 +61,11 @@ check-copied-requires c κs =
 
 put-groups-requires : tie.Need-put-groups-requires
 put-groups-requires c κs =
-    let a = c .before .before .before in
-    rw (placement a .1, claims a .1) (accepted-shown (file a) _ _ (accepted a))
+    let a = c .before .before .before .before in
+    rw (placement a .1, claims a .1) (
+      accepted-shown (file a) _ _ (accepted a),
+      omega (arith, bytes (start (checked a)) .placement, a .before .before .before .before .holdings2 .given),
+    )
 
 returns : tie.Need-returns
 returns c =
@@ -72,8 +75,9 @@ returns c =
 
 returns-2 : tie.Need-returns-2
 returns-2 c =
-    let a = c .before .before .before .before in
-    piece-is (accepted-text (file a) _ _ (accepted a)) (rw (placement a .1, claims a .1) at (c .put-groups .ensures))
+    let g = c .before in
+    let a = g .before .before .before .before .before in
+    piece-is (accepted-text (file a) _ _ (accepted a)) (rw (placement a .1, claims a .1) at (g .put-groups .ensures))
 
 pub read-table-spec : {M : Type 1} → statement M
 read-table-spec =
@@ -92,6 +96,7 @@ read-table-spec =
     (λ c. sym (length-take-le _ _ (placement (c .before) .0)))
     (λ c. claims (c .before) .0)
     (λ c. sym (length-take-le _ _ (claims (c .before .before) .0)))
+    (λ c. search needs)
     put-groups-requires
     returns
     returns-2)
