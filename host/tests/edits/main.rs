@@ -12,25 +12,63 @@ use std::process::{Command, Stdio};
 
 use scripts::{put_script, put_tools, told, Folder, Told};
 
-const TOOLS: [&str; 20] = [
-    "awk", "basename", "bash", "cat", "cp", "cut", "dirname", "env", "find", "grep", "ln", "ls", "mkdir",
-    "mktemp", "mv", "nproc", "rm", "sort", "wc", "xargs",
+const TOOLS: [&str; 21] = [
+    "awk", "basename", "bash", "cat", "cp", "dirname", "env", "find", "grep", "head", "ln", "ls", "mkdir",
+    "mktemp", "mv", "nproc", "rm", "sed", "sleep", "sort", "xargs",
 ];
 
 /// Proves every code but one that has the word wrong, and does not understand one that has the word torn; where
 /// there is the word below, a crate below it is not proved. It leaves a part behind, and says whether it has
-/// found one. Asked for a check of the repository itself, it says that all is proved.
-const CHECK: &str = "[ \"$1\" != check ] || exit 0\n\
-                     [ \"$1\" = dev ] || exit 2\n\
-                     kept=target/inc/$2/kept code=crates/$2/src/lib.rt\n\
-                     if [ \"$2\" = nothing ]; then mkdir -p $kept; exit 0; fi\n\
-                     ! grep -q torn $code || exit 2\n\
-                     [ -f crates.txt ] && [ -d target/rlib ] && [ -d target/stamp ] && [ -d crates/below/src ] || exit 2\n\
-                     [ ! -f $kept/part ] || echo taken over\n\
-                     mkdir -p $kept && echo part >$kept/part\n\
-                     if grep -q below $code; then echo logic=not-proved; echo rt: FAILED: below; exit 1; fi\n\
-                     if grep -q wrong $code; then echo logic=not-proved; exit 1; fi\n\
-                     echo logic=proved";
+/// found one. Of functions it says what it is told to, in the words of the real check: after the word refuse,
+/// that a fact in a proof file is refused; after search, that a fact is not found where there is no such file;
+/// after wait and call, that a function waits for another, with a file and without. Asked for a check of the
+/// repository itself, it says that all is proved.
+const CHECK: &str = r#"[ "$1" != check ] || exit 0
+[ "$1" = dev ] || exit 2
+kept=target/inc/$2/kept code=crates/$2/src/lib.rt
+if [ "$2" = nothing ]; then mkdir -p $kept; exit 0; fi
+! grep -q torn $code || exit 2
+[ -f crates.txt ] && [ -d target/rlib ] && [ -d target/stamp ] && [ -d crates/below/src ] || exit 2
+[ ! -f $kept/part ] || echo taken over
+mkdir -p $kept && echo part >$kept/new && mv $kept/new $kept/part
+if grep -q below $code; then echo logic=not-proved; echo rt: FAILED: below; exit 1; fi
+status=0
+while read -r word name; do
+    file=$PWD/crates/$2/proofs/${name//::/\/}/Proof.antt
+    case $word in
+    wrong) ;;
+    refuse) echo "$file:7:1: error: \`returns\`: the two types differ" ;;
+    search) echo "fn $2::$name: no proof: expected \`it\` in $file; \`search\` does not close \`returns\`" ;;
+    wait) echo "$file:9:1: error: \`it\`: \`close\` was not admitted (it has holes or undetermined implicits, or was rejected), so this cannot be checked" ;;
+    call) echo "fn $2::$name: no proof: expected \`it\` in $file; it calls \`other\`, which is not proved" ;;
+    *) continue ;;
+    esac
+    status=1
+done <<<"$(find crates/$2/src -name '*.rt' -exec cat {} +)"
+if [ "$status" = 0 ]; then echo logic=proved; else echo logic=not-proved; fi
+exit "$status""#;
+
+/// The code of the upper crate: two lines outside of any function, functions with and without a contract, a method.
+const CODE: &str = r"one
+right & \1 right-hand
+pub fn first(a: u8) -> u8
+    ensures { promised }
+{
+    right first
+    right too
+}
+impl Kind {
+    pub(crate) fn second(
+        self,
+    ) -> Kind {
+        right second
+    }
+    fn third(self) {
+        right third
+    }
+}
+const AFTER: right after;
+";
 
 struct Clone {
     folder: Folder,
@@ -46,7 +84,8 @@ impl Clone {
         }
         fs::copy(root.join(".ci/edits"), clone.beside(".ci/edits")).expect("a script");
         clone.put("crates.txt", "below:\nabove: below\n");
-        clone.put("crates/above/src/lib.rt", "one\nright & \\1 right-hand\n");
+        clone.put("crates/above/src/lib.rt", CODE);
+        clone.put("crates/above/src/more/parts.rt", "fn fourth() {\n    right fourth\n}\n");
         clone.put("crates/below/src/lib.rt", "one\n");
         clone.put("crates/above/proofs/Lib.antt", "right\n");
         for (name, text) in edits {
@@ -71,10 +110,14 @@ impl Clone {
         fs::read_to_string(self.beside(name)).expect("a file")
     }
 
-    fn run(&self, arguments: &[&str]) -> Told {
+    fn command(&self, arguments: &[&str]) -> Command {
         let mut command = Command::new(self.beside(".ci/edits"));
-        command.env_clear().env("PATH", self.beside("tools"));
-        told(command.args(arguments).stdin(Stdio::null()).output().expect("the script runs"))
+        command.env_clear().env("PATH", self.beside("tools")).args(arguments).stdin(Stdio::null());
+        command
+    }
+
+    fn run(&self, arguments: &[&str]) -> Told {
+        told(self.command(arguments).output().expect("the script runs"))
     }
 }
 
@@ -106,7 +149,7 @@ fn refused_edits_pass_and_the_crate_stays_as_it_was() {
     let two = "# a comment\nfile: src/lib.rt\nold: one\nnew:\nold: right & \\1\nnew: wrong & \\1";
     let clone = Clone::with("refused", &[("first", two), ("unedited", WRONG)]);
     assert_eq!(ending(&clone.run(&[])), ("2 passed, 0 failed", 0));
-    assert_eq!(clone.text("crates/above/src/lib.rt"), "one\nright & \\1 right-hand\n");
+    assert_eq!(clone.text("crates/above/src/lib.rt"), CODE);
     for name in ["first", "unedited"] {
         let log = clone.text(&format!("target/edits/above/{name}.log"));
         assert_eq!(log, "taken over\nlogic=not-proved\n", "over the parts of the unedited crate");
@@ -116,6 +159,118 @@ fn refused_edits_pass_and_the_crate_stays_as_it_was() {
     assert_eq!(clone.text("target/edits/above/first.log"), "logic=not-proved\n");
     let left: Vec<_> = fs::read_dir(clone.beside("target")).expect("a folder").collect();
     assert_eq!(left.len(), 3, "what is proved, and the logs: {left:?}");
+}
+
+/// What is said of each edit, after its name, with the seconds left out.
+fn answers(run: &Told) -> Vec<(&str, String)> {
+    let said = run.out.lines().filter_map(|line| line.strip_prefix("edits: above/")?.split_once(": "));
+    let mut said: Vec<_> = said.map(|(edit, words)| (edit, without_seconds(words))).collect();
+    said.sort();
+    said
+}
+
+fn without_seconds(words: &str) -> String {
+    match words.rsplit_once(" (") {
+        Some((before, seconds)) => {
+            before.to_string() + seconds.trim_start_matches(char::is_numeric).trim_end_matches(')')
+        }
+        None => words.to_string(),
+    }
+}
+
+fn edit(file: &str, old: &str, new: &str) -> String {
+    format!("file: src/{file}\nold: {old}\nnew: {new}\n")
+}
+
+const ALONE: &str = "refused, as it must be s";
+
+/// Runs these edits, and asserts what is said of each and how many passed.
+fn assert_answers(name: &str, edits: &[(&str, String)], expected: &[(&str, &str)]) {
+    let texts: Vec<_> = edits.iter().map(|(name, text)| (*name, text.as_str())).collect();
+    let run = Clone::with(name, &texts).run(&[]);
+    let expected: Vec<_> = expected.iter().map(|(edit, words)| (*edit, words.to_string())).collect();
+    assert_eq!(answers(&run), expected, "{}", run.out);
+    let passed = expected.iter().filter(|(_, words)| words.starts_with("refused")).count();
+    let failed = expected.len() - passed;
+    let status = i32::from(failed > 0);
+    assert_eq!(ending(&run), (format!("{passed} passed, {failed} failed").as_str(), status));
+}
+
+#[test]
+fn edits_of_different_functions_are_told_apart_in_one_check() {
+    let edits = [
+        ("a", edit("lib.rt", "right first", "refuse first")),
+        ("b", edit("lib.rt", "right second", "search Kind::second")),
+        ("c", edit("more/parts.rt", "right fourth", "refuse more::parts::fourth")),
+    ];
+    let at = |function: &str| format!("refused, as it must be, at {function} s for 3");
+    let (first, second, fourth) = (at("first"), at("Kind::second"), at("more::parts::fourth"));
+    assert_answers("together", &edits, &[("a", &first), ("b", &second), ("c", &fourth)]);
+}
+
+#[test]
+fn an_edit_without_a_fault_of_its_own_is_tried_by_itself() {
+    let wrong = edit("lib.rt", "right first", "refuse first");
+    let at_first = "refused, as it must be, at first s for 2";
+    let harmless = "NOT REFUSED: the crate is still proved with this edit";
+    let other = |new: &str| [("a", wrong.clone()), ("b", edit("lib.rt", "right third", new))];
+    assert_answers("harmless", &other("left third"), &[("a", at_first), ("b", harmless)]);
+    assert_answers("waits", &other("wait Kind::third"), &[("a", at_first), ("b", ALONE)]);
+    assert_answers("calls", &other("call Kind::third"), &[("a", at_first), ("b", ALONE)]);
+}
+
+/// What is refused in a function that nobody edited says that the check does not tell the edits apart.
+#[test]
+fn where_anything_else_is_refused_each_is_tried_by_itself() {
+    for words in ["refuse Kind::second", "search more::parts::fourth", "refuse Laws"] {
+        let edits = [
+            ("a", edit("lib.rt", "right first", "refuse first")),
+            ("b", edit("lib.rt", "right third", words)),
+        ];
+        assert_answers("strange", &edits, &[("a", ALONE), ("b", ALONE)]);
+    }
+}
+
+#[test]
+fn edits_of_one_function_or_of_none_have_a_check_of_their_own() {
+    let one = "refused, as it must be, at first s for 2";
+    let edits = [
+        ("a", edit("lib.rt", "right first", "refuse first")),
+        ("b", edit("lib.rt", "right third", "refuse Kind::third")),
+        ("same", edit("lib.rt", "right too", "refuse first")),
+        ("contract", edit("lib.rt", "ensures { promised }", "refuse first")),
+        ("constant", edit("lib.rt", "const AFTER: right after;", "refuse first")),
+        ("both", edit("lib.rt", "right second", "refuse first") + "old: right after\nnew: right before\n"),
+    ];
+    let third = one.replace("first", "Kind::third");
+    let mut expected = vec![("a", one), ("b", third.as_str())];
+    expected.extend([("both", ALONE), ("constant", ALONE), ("contract", ALONE), ("same", ALONE)]);
+    assert_answers("apart", &edits, &expected);
+}
+
+#[test]
+fn by_itself_means_by_itself() {
+    let (first, third) =
+        (edit("lib.rt", "right first", "refuse first"), edit("lib.rt", "right third", "refuse Kind::third"));
+    let clone = Clone::with("alone", &[("a", &first), ("b", &third)]);
+    for how in ["--alone", "--from-nothing"] {
+        let run = clone.run(&[how]);
+        assert_eq!(answers(&run), [("a", ALONE.to_string()), ("b", ALONE.to_string())], "{}", run.out);
+    }
+}
+
+/// Beside a `rt ci`, which proves a crate when its stamp is there.
+#[test]
+fn edits_are_tried_from_when_their_crate_is_proved() {
+    let clone = Clone::with("beside", &[("it", WRONG)]);
+    let mut command = clone.command(&["--as-proved"]);
+    let runner = command.stdout(Stdio::piped()).stderr(Stdio::piped()).spawn().expect("the script runs");
+    std::thread::sleep(std::time::Duration::from_millis(1500));
+    let waits = fs::read_dir(clone.beside("target")).expect("a folder").count();
+    assert_eq!(waits, 2, "nothing is made before the crate is proved");
+    clone.put("target/stamp/above", "proved\n");
+    let run = told(runner.wait_with_output().expect("it ends"));
+    assert_eq!(ending(&run), ("1 passed, 0 failed", 0));
 }
 
 #[test]
