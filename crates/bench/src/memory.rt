@@ -1,7 +1,7 @@
 // The bench's memory: the three tables and the file, each at its own place of one buffer of 65,536
-// bytes, and behind the claims their lengths in bytes, two bytes each. A letter names each: h holdings,
-// p placement, c claims, f file. The day's fills, d, stand where placement and claims do: a script has
-// the one or the others. What does not fit is left out: each function is total.
+// bytes, and at its end their lengths in bytes, two bytes each. A letter names each: h holdings,
+// p placement, c claims, f file. The day's fills, d, stand where placement, claims and file do: a script
+// has the one or the others. What does not fit is left out: each function is total.
 ghost use Prim.Native.Nat.{_≤_, _<_};
 use crate::bytes::add_number;
 use crate::bytes::blank;
@@ -13,7 +13,10 @@ use crate::text::byte_at;
 use crate::text::part;
 use crate::text::smaller;
 
-const SIZES_AT: usize = 40950;
+// Behind the room of the file, and of the fills.
+const SIZES_AT: usize = 65526;
+
+const SIZES_END: usize = 65536;
 
 fn slot(name: u8) -> usize
     ensures { λ r. ⌜ r < 5 ⌝ }
@@ -45,15 +48,15 @@ pub(crate) fn room(name: u8) -> usize
     match name {
         b'h' => 16384,
         b'p' => 16384,
-        b'c' => 8182,
+        b'c' => 8192,
         b'd' => 32800,
-        _ => 24576,
+        _ => 24566,
     }
 }
 
 // Where the length of a table or of the file stands.
 fn size_at(name: u8) -> usize
-    ensures { λ r. ⌜ r ≤ 40958 ⌝ }
+    ensures { λ r. ⌜ r ≤ 65534 ⌝ }
 {
     SIZES_AT + 2 * slot(name)
 }
@@ -97,7 +100,7 @@ pub(crate) fn resize(memory: &mut [u8], name: u8, n: usize) {
 
 // Empties all.
 pub(crate) fn clear(memory: &mut [u8]) {
-    blank(memory, SIZES_AT, SIZES_AT + 10, 0);
+    blank(memory, SIZES_AT, SIZES_END, 0);
 }
 
 // Appends a copy of the last record, with more added to its strike and to its group.

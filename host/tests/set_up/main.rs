@@ -255,7 +255,8 @@ fn the_last_line_counts_what_failed() {
 fn edits_end_with_the_gate() {
     let machine = Machine::whole("ends");
     let (process, wait) = (machine.beside("process"), machine.beside("clone/.ci/edits"));
-    put_script(&wait, &format!("echo $$ >'{}'; exec sleep 600", process.display()));
+    // What goes on is not the script itself, but a program that it has started.
+    put_script(&wait, &format!("sleep 600 & echo $! >'{}'; wait", process.display()));
     let failing = format!(
         "until [ -s '{}' ]; do sleep 0.1; done; echo '2 passed, 1 failed'; exit 1",
         process.display()
