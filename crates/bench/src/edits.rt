@@ -85,10 +85,13 @@ pub(crate) fn append(line: &[u8], memory: &mut [u8]) {
     put_terms(memory, at, line);
 }
 
+// One more than the most that any call takes: the fills of a day.
+const MOST_RECORDS: usize = 1025;
+
 // Repeats the last record until there are so many.
 fn fill(line: &[u8], memory: &mut [u8]) {
     let name = letter(line, 1);
-    let n = smaller(number(line, 2), 512);
+    let n = smaller(number(line, 2), MOST_RECORDS);
     let strike = number(line, 3);
     let group = number(line, 4);
     let mut i = size(memory, name) / 32;
