@@ -2,7 +2,7 @@
 use Prim.Native.Nat.{ℕ, suc, _+_, _-_, _*_, _/_, _%_, _≤_, _<_}
 use mathlib.Core.Path.{_≡_, refl, sym, ap, _∙_}
 use mathlib.Core.Bool.{Bool, true, false, cond, _&&_}
-use mathlib.Core.List.{List, [], _∷_, _++_, map, append-nil}
+use mathlib.Core.List.{List, [], _∷_, _++_, map, append-assoc, append-nil}
 use native.Mathlib.Decide.{decLe}
 use native.Mathlib.Omega.{arith}
 use lib.Dec.{eqb, leb}
@@ -147,10 +147,6 @@ fine-over rows (x ∷ xs) f = fine-over (rowsAfter rows x) xs (fine-after rows x
 
 -- ---- the starting rows
 
-append-one : (a : List Leg) (b : Leg) (c : List Leg) → (a ++ b ∷ []) ++ c ≡ a ++ b ∷ c
-append-one [] b c = refl
-append-one (y ∷ a) b c = ap (λ (t : List Leg). y ∷ t) (append-one a b c)
-
 -- the records before, merged: in range, not marked, and no more than they were
 record Started (before : List Leg) : Type 0 where
   pub good : All (λ l. inRange 0 l ≡ true) (merged before)
@@ -170,7 +166,7 @@ started before (x ∷ xs) i s p a u =
       unpaid = rw (merged-snoc before x) (unpaid-opened x (merged before) (u .0) (s .unpaid));
       few = rw (merged-snoc before x) (omega (arith, length-opened x (merged before), s .few));
     } in
-    rw (← append-one) (started (before ++ x ∷ []) xs (i + 1) next (p .1) (a .1) (u .1))
+    rw (← append-assoc before (x ∷ []) xs) (started (before ++ x ∷ []) xs (i + 1) next (p .1) (a .1) (u .1))
 
 -- ---- a call that is not refused
 
@@ -300,7 +296,7 @@ unfolding mergedInto
 merged-apart rows [] a = sym (append-nil rows)
 merged-apart rows (x ∷ xs) a =
     rw (opened-new x rows (apart-front rows xs x a))
-    (merged-apart (rows ++ x ∷ []) xs (rw (append-one rows x xs) a) ∙ append-one rows x xs)
+    (merged-apart (rows ++ x ∷ []) xs (rw (append-assoc rows (x ∷ []) xs) a) ∙ append-assoc rows (x ∷ []) xs)
 
 again : (rows : List Leg) → Fine rows → Apart rows → rowsPlayed (bytesOf rows) [] ≡ rows
 unfolding rowsPlayed playedOver chunks
@@ -317,7 +313,7 @@ past-apart before [] i a g = tt
 past-apart before (x ∷ xs) i a g = (
   le-leb (contractsOf x before + x .contracts .0) mostContracts
       (omega (arith, contracts-apart x before (apart-front before xs x a), ranges 0 x (g .0) .contracts .1)),
-  past-apart (before ++ x ∷ []) xs (i + 1) (rw (append-one before x xs) a) (g .1),
+  past-apart (before ++ x ∷ []) xs (i + 1) (rw (append-assoc before (x ∷ []) xs) a) (g .1),
 )
 
 -- a table of rows apart, played over by no fills, is refused nothing
