@@ -20,13 +20,13 @@ use Rattle.records.specs.declared.refusals.Fault.{Fault}
 use Rattle.records.specs.declared.refusals.Fault.the-variants.{Nothing, Is}
 use Rattle.records.specs.declared.tables.Kind.the-variants.{Holdings}
 use Rattle.records.specs.declared.tables.Counted.the-variants.{Records}
-use Rattle.records.proofs.LegLaws.{contracts-range, paid-range, length-leg-bytes, leg-good}
+use Rattle.records.proofs.LegLaws.{contracts-range, paid-range, leg-good}
 use Rattle.records.proofs.LineLaws.{line-sym}
 use Rattle.records.proofs.ListLaws.{map-all}
 use Rattle.records.proofs.PassLaws.{Pass, clear, unclear, pass-left, pass-right, pass-both, each-pass}
 use Rattle.records.proofs.PutLaws.{put-front, put-past}
 use Rattle.records.proofs.TableLaws.{ranges, fields-good}
-use Rattle.records.proofs.ChunkLaws.{records-append, length-rows}
+use Rattle.records.proofs.ChunkLaws.{length-rows}
 use Rattle.fills.specs.Fills.{isOpen, fillLeg}
 use Rattle.fills.specs.Rows.{heldOf, fewer, opened, closed, mergedInto, merged, bytesOf, unmarked, startingLegs}
 use Rattle.fills.specs.Played.{openNumber, numberOver, rowsAfter, playedOver, refusedOver}
@@ -41,7 +41,7 @@ use Rattle.fills.proofs.LedgerLaws.{fill-range, fill-unpaid, fill-open,
 use Rattle.fills.proofs.MergeLaws.{held-merged, merged-snoc, length-opened}
 use Rattle.fills.proofs.PlayLaws.{Tabled, tables-clear}
 use Rattle.fills.proofs.RowLaws.{all-opened, all-closed, left-some, length-opened-is}
-use Rattle.fills.proofs.StandLaws.{length-bytes, one-record, legs-back}
+use Rattle.fills.proofs.StandLaws.{length-bytes, records-back, legs-back}
 use Rattle.fills.proofs.UnpaidLaws.{unpaid, starting-is, unpaid-same, start-same}
 
 -- rows that make a table of holdings
@@ -241,11 +241,8 @@ listed h f result indices numbers n k e = go (firstOf (playChecks h f result ind
 -- ---- its table
 
 records-good : (rows : List Leg) → All (λ l. inRange 0 l ≡ true) rows → All (λ r. goodRecord Holdings r ≡ true) (recordsOf (bytesOf rows))
-unfolding bytesOf chunks
-records-good [] a = tt
-records-good (x ∷ xs) a =
-    rw (records-append 1 (legBytes x) (bytesOf xs) (length-leg-bytes x), one-record x)
-    (leg-good 0 x (omega arith) (a .0), records-good xs (a .1))
+records-good rows a =
+    rw (records-back rows) (map-all legBytes (λ r. goodRecord Holdings r ≡ true) (λ l. inRange 0 l ≡ true) rows (λ l e. leg-good 0 l (omega arith) e) a)
 
 whole-bytes : (rows : List Leg) → Fine rows → wholeTable Holdings (length (bytesOf rows)) ≡ true
 whole-bytes rows f =
