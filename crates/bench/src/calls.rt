@@ -19,8 +19,8 @@ fn kind_of(name: u8) -> Kind {
     }
 }
 
-pub(crate) fn check(memory: &[u8], sizes: &[usize], name: u8) {
-    match records::check_table(kind_of(name), table(memory, sizes, name)) {
+pub(crate) fn check(memory: &[u8], name: u8) {
+    match records::check_table(kind_of(name), table(memory, name)) {
         Counted::Records(n) => print_number(n),
         Counted::Refused(refusal) => print_refusal(refusal),
     }
@@ -54,10 +54,10 @@ pub(crate) fn print_verdict(verdict: Verdict) {
     print_head(&line, n);
 }
 
-pub(crate) fn sheet(memory: &[u8], sizes: &[usize]) {
+pub(crate) fn sheet(memory: &[u8]) {
     print_verdict(sheets::check_sheet(
-        table(memory, sizes, b'h'),
-        table(memory, sizes, b'p'),
-        table(memory, sizes, b'c'),
+        table(memory, b'h'),
+        table(memory, b'p'),
+        table(memory, b'c'),
     ));
 }

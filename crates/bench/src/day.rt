@@ -102,7 +102,6 @@ fn print_answer(played: Played, result: &[u8], indices: &[u32], numbers: &[u8]) 
 fn print_played(
     line: &[u8],
     memory: &[u8],
-    sizes: &[usize],
     result: &mut [u8],
     indices: &mut [u32],
     numbers: &mut [u8],
@@ -111,8 +110,8 @@ fn print_played(
     let i = smaller(number(line, 2), indices.len());
     let n = smaller(number(line, 3), numbers.len());
     let played = fills::play(
-        table(memory, sizes, b'h'),
-        table(memory, sizes, b'd'),
+        table(memory, b'h'),
+        table(memory, b'd'),
         &mut result[..room],
         &mut indices[..i],
         &mut numbers[..n],
@@ -122,12 +121,12 @@ fn print_played(
 }
 
 // The result becomes the holdings, and no fills are left; on a refusal all stays.
-fn take_over(played: Played, result: &[u8], memory: &mut [u8], sizes: &mut [usize]) {
+fn take_over(played: Played, result: &[u8], memory: &mut [u8]) {
     match played {
         Played::Done(rows, _) => {
             let bytes = 32 * smaller(rows, 1000);
-            resize(memory, sizes, b'd', 0);
-            resize(memory, sizes, b'h', bytes);
+            resize(memory, b'd', 0);
+            resize(memory, b'h', bytes);
             copy_to(memory, base(b'h'), part(result, 0, bytes));
         }
         Played::Refused(_) => {}
@@ -136,10 +135,10 @@ fn take_over(played: Played, result: &[u8], memory: &mut [u8], sizes: &mut [usiz
 
 // Plays the fills in a result of so many bytes (at most 8,320) and lists of so many entries (at most
 // 1,100 each).
-pub(crate) fn play(line: &[u8], memory: &mut [u8], sizes: &mut [usize]) {
+pub(crate) fn play(line: &[u8], memory: &mut [u8]) {
     let mut result = [NO_BYTE; 8320];
     let mut indices = [NO_INDEX; 1100];
     let mut numbers = [NO_BYTE; 1100];
-    let played = print_played(line, memory, sizes, &mut result, &mut indices, &mut numbers);
-    take_over(played, &result, memory, sizes);
+    let played = print_played(line, memory, &mut result, &mut indices, &mut numbers);
+    take_over(played, &result, memory);
 }

@@ -3,6 +3,7 @@ ghost use Prim.Native.Nat.{_≤_};
 use crate::bytes::add_number;
 use crate::bytes::low;
 use crate::memory::base;
+use crate::memory::clear;
 use crate::memory::repeat;
 use crate::memory::resize;
 use crate::memory::room;
@@ -63,14 +64,14 @@ fn put_claim(memory: &mut [u8], at: usize, line: &[u8])
 }
 
 // Appends the record of a line to the table that the line's letter names, if there is room.
-pub(crate) fn append(line: &[u8], memory: &mut [u8], sizes: &mut [usize]) {
+pub(crate) fn append(line: &[u8], memory: &mut [u8]) {
     let name = letter(line, 0);
-    let n = size(sizes, name);
+    let n = size(memory, name);
     if room(name) < n + 32 {
         return;
     }
     let at = base(name) + n;
-    resize(memory, sizes, name, n + 32);
+    resize(memory, name, n + 32);
     if name == b'c' {
         put_claim(memory, at, line);
         return;
@@ -84,15 +85,18 @@ pub(crate) fn append(line: &[u8], memory: &mut [u8], sizes: &mut [usize]) {
     put_terms(memory, at, line);
 }
 
+// One more than the most that any call takes: the fills of a day.
+const MOST_RECORDS: usize = 1025;
+
 // Repeats the last record until there are so many.
-fn fill(line: &[u8], memory: &mut [u8], sizes: &mut [usize]) {
+fn fill(line: &[u8], memory: &mut [u8]) {
     let name = letter(line, 1);
-    let n = smaller(number(line, 2), 512);
+    let n = smaller(number(line, 2), MOST_RECORDS);
     let strike = number(line, 3);
     let group = number(line, 4);
-    let mut i = size(sizes, name) / 32;
+    let mut i = size(memory, name) / 32;
     while i < n {
-        repeat(memory, sizes, name, strike, group);
+        repeat(memory, name, strike, group);
         i += 1;
     }
 }
@@ -104,73 +108,68 @@ fn bump(memory: &mut [u8], name: u8, at: usize, more: usize) {
     }
 }
 
-fn clear(memory: &mut [u8], sizes: &mut [usize]) {
-    resize(memory, sizes, b'h', 0);
-    resize(memory, sizes, b'p', 0);
-    resize(memory, sizes, b'c', 0);
-    resize(memory, sizes, b'f', 0);
-    resize(memory, sizes, b'd', 0);
-}
-
 // Whether the line is a record of a table.
 fn is_record(line: &[u8]) -> bool {
     says(line, b"h") | says(line, b"p") | says(line, b"c") | says(line, b"d")
 }
 
-// The commands that append or empty. Whether the line is one of them; if so, it is done.
-fn edit_records(line: &[u8], memory: &mut [u8], sizes: &mut [usize]) -> bool {
+// What a line changes, if it is one of these commands.
+enum Change {
+    Append,
+    Clear,
+    Fill,
+    Cut,
+    Byte,
+    Bump,
+    Seal,
+    Nothing,
+}
+
+fn change_of(line: &[u8]) -> Change {
     if is_record(line) {
-        append(line, memory, sizes);
-        return true;
+        return Change::Append;
     }
     if says(line, b"clear") {
-        clear(memory, sizes);
-        return true;
+        return Change::Clear;
     }
-    false
-}
-
-// The commands on a table's length, likewise.
-fn edit_lengths(line: &[u8], memory: &mut [u8], sizes: &mut [usize]) -> bool {
     if says(line, b"fill") {
-        fill(line, memory, sizes);
-        return true;
+        return Change::Fill;
     }
     if says(line, b"cut") {
-        resize(memory, sizes, letter(line, 1), number(line, 2));
-        return true;
+        return Change::Cut;
     }
-    false
+    byte_change_of(line)
 }
 
-// The commands on single bytes, likewise.
-fn edit_bytes(line: &[u8], memory: &mut [u8]) -> bool {
+fn byte_change_of(line: &[u8]) -> Change {
     if says(line, b"byte") {
-        set_byte(
+        return Change::Byte;
+    }
+    if says(line, b"bump") {
+        return Change::Bump;
+    }
+    if says(line, b"seal") {
+        return Change::Seal;
+    }
+    Change::Nothing
+}
+
+// Whether the line is one of the commands that change the memory; if so, it is done.
+pub(crate) fn edit(line: &[u8], memory: &mut [u8]) -> bool {
+    match change_of(line) {
+        Change::Append => append(line, memory),
+        Change::Clear => clear(memory),
+        Change::Fill => fill(line, memory),
+        Change::Cut => resize(memory, letter(line, 1), number(line, 2)),
+        Change::Byte => set_byte(
             memory,
             letter(line, 1),
             number(line, 2),
             low(number(line, 3)),
-        );
-        return true;
+        ),
+        Change::Bump => bump(memory, letter(line, 1), number(line, 2), number(line, 3)),
+        Change::Seal => seal(memory, number(line, 1)),
+        Change::Nothing => return false,
     }
-    if says(line, b"bump") {
-        bump(memory, letter(line, 1), number(line, 2), number(line, 3));
-        return true;
-    }
-    if says(line, b"seal") {
-        seal(memory, number(line, 1));
-        return true;
-    }
-    false
-}
-
-pub(crate) fn edit(line: &[u8], memory: &mut [u8], sizes: &mut [usize]) -> bool {
-    if edit_records(line, memory, sizes) {
-        return true;
-    }
-    if edit_lengths(line, memory, sizes) {
-        return true;
-    }
-    edit_bytes(line, memory)
+    true
 }

@@ -51,44 +51,45 @@ pub(crate) fn origin_of(line: &[u8], k: usize) -> Origin
     }
 }
 
-// Writes the three tables into `out`, and what was written into the file of the memory.
-fn print_written(
-    memory: &mut [u8],
-    sizes: &mut [usize],
-    room: usize,
-    origin: Origin,
-    out: &mut [u8],
-) {
-    let end = smaller(room, out.len());
-    match blocks::write_file(
-        table(memory, sizes, b'h'),
-        table(memory, sizes, b'p'),
-        table(memory, sizes, b'c'),
-        origin,
-        &mut out[..end],
-    ) {
+// What a call that makes a file answered; what it wrote takes the place of the file of the memory.
+pub(crate) fn print_made(memory: &mut [u8], made: Writing, out: &[u8]) {
+    match made {
         Writing::Wrote(n) => {
             print_number(n);
             print_kept(kept(out, n));
-            resize(memory, sizes, b'f', n);
+            resize(memory, b'f', n);
             copy_to(memory, base(b'f'), part(out, 0, n));
         }
         Writing::Refused(refusal) => {
             print_refusal(refusal);
             print_kept(kept(out, 0));
-            resize(memory, sizes, b'f', 0);
         }
     }
 }
 
-// Writes the file in a buffer of so many bytes (at most 20,480).
-pub(crate) fn write(line: &[u8], memory: &mut [u8], sizes: &mut [usize]) {
-    let mut out = [NO_BYTE; 20480];
-    print_written(memory, sizes, number(line, 1), origin_of(line, 2), &mut out);
+// Writes the three tables into `out`, and what was written into the file of the memory, which is empty
+// where nothing was.
+fn print_written(memory: &mut [u8], room: usize, origin: Origin, out: &mut [u8]) {
+    let end = smaller(room, out.len());
+    let written = blocks::write_file(
+        table(memory, b'h'),
+        table(memory, b'p'),
+        table(memory, b'c'),
+        origin,
+        &mut out[..end],
+    );
+    resize(memory, b'f', 0);
+    print_made(memory, written, out);
 }
 
-pub(crate) fn file(memory: &[u8], sizes: &[usize]) {
-    print_verdict(verdicts::check_file(table(memory, sizes, b'f')));
+// Writes the file in a buffer of so many bytes (at most 20,480).
+pub(crate) fn write(line: &[u8], memory: &mut [u8]) {
+    let mut out = [NO_BYTE; 20480];
+    print_written(memory, number(line, 1), origin_of(line, 2), &mut out);
+}
+
+pub(crate) fn file(memory: &[u8]) {
+    print_verdict(verdicts::check_file(table(memory, b'f')));
 }
 
 fn print_text(text: &[u8; TABLE_BYTES], n: usize) {
@@ -97,9 +98,9 @@ fn print_text(text: &[u8; TABLE_BYTES], n: usize) {
 }
 
 // The table of the file, each of its lines on a line of its own.
-pub(crate) fn shown(memory: &[u8], sizes: &[usize]) {
+pub(crate) fn shown(memory: &[u8]) {
     let mut text = [NO_BYTE; TABLE_BYTES];
-    let n = verdicts::table_text(table(memory, sizes, b'f'), &mut text);
+    let n = verdicts::table_text(table(memory, b'f'), &mut text);
     print_text(&text, n);
 }
 
@@ -119,13 +120,13 @@ pub(crate) fn same(read: &[u8], n: usize, table: &[u8]) -> bool {
 }
 
 // The three tables that were read, after a reading that succeeded.
-fn print_tables(memory: &[u8], sizes: &[usize], counts: Counts, h: &[u8], p: &[u8], c: &[u8]) {
+fn print_tables(memory: &[u8], counts: Counts, h: &[u8], p: &[u8], c: &[u8]) {
     print_number(counts.holdings);
     print_number(counts.placement);
     print_number(counts.claims);
-    if same(h, counts.holdings, table(memory, sizes, b'h'))
-        & same(p, counts.placement, table(memory, sizes, b'p'))
-        & same(c, counts.claims, table(memory, sizes, b'c'))
+    if same(h, counts.holdings, table(memory, b'h'))
+        & same(p, counts.placement, table(memory, b'p'))
+        & same(c, counts.claims, table(memory, b'c'))
     {
         print(b" same");
     } else {
@@ -143,24 +144,9 @@ fn kept_after(s: &[u8], n: usize) -> bool {
     kept(s, 32 * smaller(n, 1000))
 }
 
-fn print_reading(
-    line: &[u8],
-    memory: &[u8],
-    sizes: &[usize],
-    h: &mut [u8],
-    p: &mut [u8],
-    c: &mut [u8],
-) {
-    let room_h = smaller(number(line, 1), h.len());
-    let room_p = smaller(number(line, 2), p.len());
-    let room_c = smaller(number(line, 3), c.len());
-    match blocks::read_file(
-        table(memory, sizes, b'f'),
-        &mut h[..room_h],
-        &mut p[..room_p],
-        &mut c[..room_c],
-    ) {
-        Reading::Read(counts, _) => print_tables(memory, sizes, counts, h, p, c),
+fn print_answer(memory: &[u8], reading: Reading, h: &[u8], p: &[u8], c: &[u8]) {
+    match reading {
+        Reading::Read(counts, _) => print_tables(memory, counts, h, p, c),
         Reading::Refused(refusal) => {
             print_refusal(refusal);
             print_kept(kept(h, 0) & kept(p, 0) & kept(c, 0));
@@ -168,11 +154,24 @@ fn print_reading(
     }
 }
 
+fn print_reading(line: &[u8], memory: &[u8], h: &mut [u8], p: &mut [u8], c: &mut [u8]) {
+    let room_h = smaller(number(line, 1), h.len());
+    let room_p = smaller(number(line, 2), p.len());
+    let room_c = smaller(number(line, 3), c.len());
+    let reading = blocks::read_file(
+        table(memory, b'f'),
+        &mut h[..room_h],
+        &mut p[..room_p],
+        &mut c[..room_c],
+    );
+    print_answer(memory, reading, h, p, c);
+}
+
 // Reads the file into tables of so many bytes (at most 8,320, 8,320 and 1,088), and compares them
 // with those of the memory.
-pub(crate) fn read(line: &[u8], memory: &[u8], sizes: &[usize]) {
+pub(crate) fn read(line: &[u8], memory: &[u8]) {
     let mut h = [NO_BYTE; 8320];
     let mut p = [NO_BYTE; 8320];
     let mut c = [NO_BYTE; 1088];
-    print_reading(line, memory, sizes, &mut h, &mut p, &mut c);
+    print_reading(line, memory, &mut h, &mut p, &mut c);
 }

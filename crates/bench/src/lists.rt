@@ -87,17 +87,8 @@ fn print_nets(strikes: &[u32], nets: &[i64], n: usize) {
     }
 }
 
-fn print_worksheet(
-    placement: &[u8],
-    g: usize,
-    room_strikes: usize,
-    room_nets: usize,
-    strikes: &mut [u32],
-    nets: &mut [i64],
-) {
-    let s = smaller(room_strikes, strikes.len());
-    let m = smaller(room_nets, nets.len());
-    match spreads::worksheet(placement, g, &mut strikes[..s], &mut nets[..m]) {
+fn print_listed(listed: Listed, strikes: &[u32], nets: &[i64]) {
+    match listed {
         Listed::Entries(count) => {
             print_number(count);
             print(b":");
@@ -109,6 +100,20 @@ fn print_worksheet(
             print_kept(kept_strikes(strikes, 0) & kept_mills(nets, 0));
         }
     }
+}
+
+fn print_worksheet(
+    placement: &[u8],
+    g: usize,
+    room_strikes: usize,
+    room_nets: usize,
+    strikes: &mut [u32],
+    nets: &mut [i64],
+) {
+    let s = smaller(room_strikes, strikes.len());
+    let m = smaller(room_nets, nets.len());
+    let listed = spreads::worksheet(placement, g, &mut strikes[..s], &mut nets[..m]);
+    print_listed(listed, strikes, nets);
 }
 
 // The worksheet of group g, in slices of so many entries (at most 300).

@@ -26,6 +26,7 @@
 //                           result becomes the holdings, and no fills are left. Of the rows the last
 //                           eight are printed, with the word paid where there is a mark, of the
 //                           refused fills the first eight
+mod asks;
 mod bytes;
 mod calls;
 mod day;
@@ -39,6 +40,9 @@ mod print;
 mod seals;
 mod text;
 
+use asks::Ask;
+use asks::FileAsk;
+use asks::TableAsk;
 use libc::STDIN_FILENO;
 use memory::table;
 use print::print;
@@ -46,134 +50,64 @@ use text::byte_at;
 use text::letter;
 use text::number;
 use text::part;
-use text::says;
 use text::word;
 
 // The longest script; what is longer is cut.
 const SCRIPT_BYTES: usize = 131072;
 
 // Empties a table, appends the record that follows the word `try`, and checks it.
-fn attempt(line: &[u8], memory: &mut [u8], sizes: &mut [usize]) {
+fn attempt(line: &[u8], memory: &mut [u8]) {
     let name = letter(line, 1);
-    memory::resize(memory, sizes, name, 0);
-    edits::append(part(line, word(line, 1), line.len()), memory, sizes);
-    calls::check(memory, sizes, name);
+    memory::resize(memory, name, 0);
+    edits::append(part(line, word(line, 1), line.len()), memory);
+    calls::check(memory, name);
 }
 
-// The commands on tables that answer. Whether the line is one of them.
-fn ask_tables(line: &[u8], memory: &[u8], sizes: &[usize]) -> bool {
-    if says(line, b"check") {
-        calls::check(memory, sizes, letter(line, 1));
-        return true;
-    }
-    if says(line, b"margin") {
-        calls::margin(table(memory, sizes, b'p'), number(line, 1));
-        return true;
-    }
-    if says(line, b"cash") {
-        calls::cash(table(memory, sizes, b'p'), number(line, 1));
-        return true;
-    }
-    if says(line, b"margins") {
-        lists::margins(table(memory, sizes, b'p'), number(line, 1), number(line, 2));
-        return true;
-    }
-    if says(line, b"worksheet") {
-        lists::worksheet(
-            table(memory, sizes, b'p'),
+// The commands on tables that answer.
+fn ask_tables(line: &[u8], memory: &[u8], ask: TableAsk) {
+    match ask {
+        TableAsk::Check => calls::check(memory, letter(line, 1)),
+        TableAsk::Margin => calls::margin(table(memory, b'p'), number(line, 1)),
+        TableAsk::Cash => calls::cash(table(memory, b'p'), number(line, 1)),
+        TableAsk::Margins => {
+            lists::margins(table(memory, b'p'), number(line, 1), number(line, 2))
+        }
+        TableAsk::Worksheet => lists::worksheet(
+            table(memory, b'p'),
             number(line, 1),
             number(line, 2),
             number(line, 3),
-        );
-        return true;
-    }
-    if says(line, b"sheet") {
-        calls::sheet(memory, sizes);
-        return true;
-    }
-    false
-}
-
-// The commands on the file that answer, likewise.
-fn ask_files(line: &[u8], memory: &mut [u8], sizes: &mut [usize]) -> bool {
-    if says(line, b"write") {
-        files::write(line, memory, sizes);
-        return true;
-    }
-    if says(line, b"file") {
-        files::file(memory, sizes);
-        return true;
-    }
-    if says(line, b"table") {
-        files::shown(memory, sizes);
-        return true;
-    }
-    if says(line, b"read") {
-        files::read(line, memory, sizes);
-        return true;
-    }
-    false
-}
-
-// The commands on the file's form and account, likewise.
-fn ask_forms(line: &[u8], memory: &mut [u8], sizes: &mut [usize]) -> bool {
-    if says(line, b"judge") {
-        moves::judge(memory, sizes);
-        return true;
-    }
-    if says(line, b"to_new") {
-        moves::to_new(memory, sizes, number(line, 1), number(line, 2));
-        return true;
-    }
-    if says(line, b"to_old") {
-        moves::to_old(memory, sizes, number(line, 1));
-        return true;
-    }
-    if says(line, b"again") {
-        moves::again(line, memory, sizes);
-        return true;
-    }
-    false
-}
-
-// The commands that answer and change tables, likewise.
-fn ask_changes(line: &[u8], memory: &mut [u8], sizes: &mut [usize]) -> bool {
-    if says(line, b"try") {
-        attempt(line, memory, sizes);
-        return true;
-    }
-    if says(line, b"mark") {
-        marks::mark(memory, sizes);
-        return true;
-    }
-    if says(line, b"play") {
-        day::play(line, memory, sizes);
-        return true;
-    }
-    false
-}
-
-// The commands that answer by the file, likewise.
-fn ask_file(line: &[u8], memory: &mut [u8], sizes: &mut [usize]) -> bool {
-    if ask_files(line, memory, sizes) {
-        return true;
-    }
-    ask_forms(line, memory, sizes)
-}
-
-fn ask(line: &[u8], memory: &mut [u8], sizes: &mut [usize]) {
-    if ask_tables(line, memory, sizes) {
-        return;
-    }
-    if ask_changes(line, memory, sizes) {
-        return;
-    }
-    if !ask_file(line, memory, sizes) {
-        print(b" ?\n");
+        ),
+        TableAsk::Sheet => calls::sheet(memory),
     }
 }
 
-fn step(line: &[u8], memory: &mut [u8], sizes: &mut [usize]) {
+// The commands on the file that answer.
+fn ask_file(line: &[u8], memory: &mut [u8], ask: FileAsk) {
+    match ask {
+        FileAsk::Write => files::write(line, memory),
+        FileAsk::File => files::file(memory),
+        FileAsk::Table => files::shown(memory),
+        FileAsk::Read => files::read(line, memory),
+        FileAsk::Judge => moves::judge(memory),
+        FileAsk::ToNew => moves::to_new(memory, number(line, 1), number(line, 2)),
+        FileAsk::ToOld => moves::to_old(memory, number(line, 1)),
+        FileAsk::Again => moves::again(line, memory),
+    }
+}
+
+fn ask(line: &[u8], memory: &mut [u8]) {
+    match asks::ask_of(line) {
+        Ask::OfTables(ask) => ask_tables(line, memory, ask),
+        Ask::OfFile(ask) => ask_file(line, memory, ask),
+        Ask::Try => attempt(line, memory),
+        Ask::Mark => marks::mark(memory),
+        Ask::Play => day::play(line, memory),
+        Ask::Unknown => print(b" ?\n"),
+    }
+}
+
+fn step(line: &[u8], memory: &mut [u8]) {
     if line.len() == 0 {
         return;
     }
@@ -182,19 +116,19 @@ fn step(line: &[u8], memory: &mut [u8], sizes: &mut [usize]) {
         print(b"\n");
         return;
     }
-    if edits::edit(line, memory, sizes) {
+    if edits::edit(line, memory) {
         return;
     }
     print(line);
     print(b":");
-    ask(line, memory, sizes);
+    ask(line, memory);
 }
 
-fn run(script: &[u8], memory: &mut [u8], sizes: &mut [usize]) {
+fn run(script: &[u8], memory: &mut [u8]) {
     let mut at: usize = 0;
     while at < script.len() {
         let end = text::line_end(script, at);
-        step(part(script, at, end), memory, sizes);
+        step(part(script, at, end), memory);
         at = end + 1;
     }
 }
@@ -203,6 +137,5 @@ fn main() {
     let mut script = [0u8; SCRIPT_BYTES];
     let n = io::read_full(STDIN_FILENO, &mut script);
     let mut memory = io::large_buffer();
-    let mut sizes = [0usize; 5];
-    run(&script[..n], &mut memory, &mut sizes);
+    run(&script[..n], &mut memory);
 }

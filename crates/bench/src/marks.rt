@@ -34,11 +34,11 @@ fn print_marked(before: &[u8], placement: &mut [u8]) {
     }
 }
 
-pub(crate) fn mark(memory: &mut [u8], sizes: &[usize]) {
+pub(crate) fn mark(memory: &mut [u8]) {
     let mut before = [0u8; 16384];
-    copy_to(&mut before, 0, table(memory, sizes, b'p'));
+    copy_to(&mut before, 0, table(memory, b'p'));
     let at = base(b'p');
-    let end = at + size(sizes, b'p');
+    let end = at + size(memory, b'p');
     if end <= memory.len() {
         print_marked(&before, &mut memory[at..end]);
     }

@@ -1,17 +1,12 @@
 // The calls on a file's form and account: judge, to_new, to_old, and a comparison of what is written again.
-use crate::bytes::copy_to;
 use crate::files::NO_BYTE;
-use crate::files::kept;
 use crate::files::origin_of;
+use crate::files::print_made;
 use crate::files::same;
-use crate::memory::base;
-use crate::memory::resize;
 use crate::memory::table;
 use crate::print::print;
-use crate::print::print_kept;
 use crate::print::print_number;
 use crate::print::print_refusal;
-use crate::text::part;
 use crate::text::smaller;
 use blocks::Origin;
 use blocks::Reading;
@@ -24,8 +19,8 @@ fn print_origin(origin: Origin) {
 }
 
 // How many records the file has of each kind, its form and its account.
-pub(crate) fn judge(memory: &[u8], sizes: &[usize]) {
-    match blocks::judge_file(table(memory, sizes, b'f')) {
+pub(crate) fn judge(memory: &[u8]) {
+    match blocks::judge_file(table(memory, b'f')) {
         Reading::Read(counts, origin) => {
             print_number(counts.holdings);
             print_number(counts.placement);
@@ -37,61 +32,39 @@ pub(crate) fn judge(memory: &[u8], sizes: &[usize]) {
     print(b"\n");
 }
 
-// What a move answered; what it wrote takes the place of the file of the memory.
-fn print_moved(memory: &mut [u8], sizes: &mut [usize], moved: Writing, out: &[u8]) {
-    match moved {
-        Writing::Wrote(n) => {
-            print_number(n);
-            print_kept(kept(out, n));
-            resize(memory, sizes, b'f', n);
-            copy_to(memory, base(b'f'), part(out, 0, n));
-        }
-        Writing::Refused(refusal) => {
-            print_refusal(refusal);
-            print_kept(kept(out, 0));
-        }
-    }
+fn move_to_new(memory: &mut [u8], account: usize, room: usize, out: &mut [u8]) {
+    let end = smaller(room, out.len());
+    let moved = blocks::to_new(table(memory, b'f'), account as u64, &mut out[..end]);
+    print_made(memory, moved, out);
 }
 
-fn move_to_new(
-    memory: &mut [u8],
-    sizes: &mut [usize],
-    account: usize,
-    room: usize,
-    out: &mut [u8],
-) {
+fn move_to_old(memory: &mut [u8], room: usize, out: &mut [u8]) {
     let end = smaller(room, out.len());
-    let moved = blocks::to_new(table(memory, sizes, b'f'), account as u64, &mut out[..end]);
-    print_moved(memory, sizes, moved, out);
-}
-
-fn move_to_old(memory: &mut [u8], sizes: &mut [usize], room: usize, out: &mut [u8]) {
-    let end = smaller(room, out.len());
-    let moved = blocks::to_old(table(memory, sizes, b'f'), &mut out[..end]);
-    print_moved(memory, sizes, moved, out);
+    let moved = blocks::to_old(table(memory, b'f'), &mut out[..end]);
+    print_made(memory, moved, out);
 }
 
 // Moves the file in a buffer of `room` bytes (at most 20,480).
-pub(crate) fn to_new(memory: &mut [u8], sizes: &mut [usize], account: usize, room: usize) {
+pub(crate) fn to_new(memory: &mut [u8], account: usize, room: usize) {
     let mut out = [NO_BYTE; 20480];
-    move_to_new(memory, sizes, account, room, &mut out);
+    move_to_new(memory, account, room, &mut out);
 }
 
-pub(crate) fn to_old(memory: &mut [u8], sizes: &mut [usize], room: usize) {
+pub(crate) fn to_old(memory: &mut [u8], room: usize) {
     let mut out = [NO_BYTE; 20480];
-    move_to_old(memory, sizes, room, &mut out);
+    move_to_old(memory, room, &mut out);
 }
 
-fn print_again(memory: &[u8], sizes: &[usize], origin: Origin, out: &mut [u8]) {
+fn print_again(memory: &[u8], origin: Origin, out: &mut [u8]) {
     match blocks::write_file(
-        table(memory, sizes, b'h'),
-        table(memory, sizes, b'p'),
-        table(memory, sizes, b'c'),
+        table(memory, b'h'),
+        table(memory, b'p'),
+        table(memory, b'c'),
         origin,
         out,
     ) {
         Writing::Wrote(n) => {
-            if same(out, n / 32, table(memory, sizes, b'f')) {
+            if same(out, n / 32, table(memory, b'f')) {
                 print(b" same");
             } else {
                 print(b" DIFFERENT");
@@ -103,7 +76,7 @@ fn print_again(memory: &[u8], sizes: &[usize], origin: Origin, out: &mut [u8]) {
 }
 
 // Whether the three tables, written in a form and of an account, are the file.
-pub(crate) fn again(line: &[u8], memory: &[u8], sizes: &[usize]) {
+pub(crate) fn again(line: &[u8], memory: &[u8]) {
     let mut out = [NO_BYTE; 20480];
-    print_again(memory, sizes, origin_of(line, 1), &mut out);
+    print_again(memory, origin_of(line, 1), &mut out);
 }

@@ -29,9 +29,10 @@ fn block_sums(memory: &[u8], at: usize) -> Checks
     Checks { a, b }
 }
 
-// Puts the two checks of a block of the file right.
+// Puts the two checks of a block of the file right; the last block that the room of the file holds whole
+// is 46.
 pub(crate) fn seal(memory: &mut [u8], block: usize) {
-    let at = base(b'f') + 512 * smaller(block, 47);
+    let at = base(b'f') + 512 * smaller(block, 46);
     let checks = block_sums(memory, at);
     blank(memory, at + 508, at + 512, 0);
     add_number(memory, at + 508, 2, checks.a);

@@ -1,7 +1,7 @@
 -- Bytes 496 to 507 by the numbers that they say: a number's bytes are the number, and the others are zero.
 use mathlib.Core.Path.{_≡_, refl, sym, ap, _∙_}
 use mathlib.Core.Bool.{_&&_}
-use mathlib.Core.List.{List, [], _∷_, _++_}
+use mathlib.Core.List.{List, _++_}
 use Prim.Native.Nat.{ℕ, zero, suc, _+_, _/_, _%_, _≤_, _<_}
 use native.Mathlib.Numerals.{add-one}
 use native.Mathlib.Omega.{arith}
@@ -11,12 +11,15 @@ use lib.Seq.{drop-cons, take-add, drop-drop}
 use borrow.Author.Tests.{eq-eqb}
 use Rattle.records.specs.Bytes.{leAt, isZero, zeroIn}
 use Rattle.records.specs.Lists.{allOf, same}
-use Rattle.records.proofs.ByteLaws.{leAt-next, leAt-none, zero-in}
+use Rattle.records.proofs.ByteLaws.{leAt-next, zero-in}
 use Rattle.records.proofs.ListLaws.{allOf-append}
+use Rattle.records.proofs.SameLaws.{same-both}
 use Rattle.blocks.specs.Forms.{kept}
 use Rattle.blocks.specs.Block.{tailFits, tailOf, zeros, bytesWide}
 use Rattle.blocks.specs.declared.forms.Form.{Form}
 use Rattle.blocks.specs.declared.forms.Form.the-variants.{Old, New}
+use Rattle.blocks.proofs.BlockLaws.{byte-is}
+use Rattle.blocks.proofs.SameLaws.{zeros-of}
 
 -- each element is a byte
 abbrev pub SmallAt : List ℕ → Type 0
@@ -24,9 +27,7 @@ SmallAt b = (i : ℕ) → i < length b → getD b i 0 < 256
 
 -- bytes are those of the number that they say
 pub bytes-say : (b : List ℕ) (w at : ℕ) → SmallAt b → at + suc w ≤ length b → take (suc w) (drop at b) ≡ bytesWide (suc w) (leAt b at (suc w))
-bytes-say b zero at small h =
-    let e : leAt b at 1 ≡ getD b at 0 = omega (arith, leAt-next b at 0, leAt-none b (at + 1)) in
-    rw (e, drop-cons b at 0 (omega arith))
+bytes-say b zero at small h = rw (byte-is b at, drop-cons b at 0 (omega arith))
 bytes-say b (suc w) at small h =
     let n = leAt b at (suc (suc w)) in
     let m = leAt b (at + 1) (suc w) in
@@ -35,20 +36,6 @@ bytes-say b (suc w) at small h =
     let high : n / 256 ≡ m = omega (arith, leAt-next b at (suc w)) in
     let rest : take (suc w) (drop (suc at) b) ≡ bytesWide (suc w) m = rw (← add-one at) (bytes-say b w (at + 1) small (omega arith)) in
     rw (low, high, drop-cons b at 0 (omega arith), rest)
-
-same-both : (x y z : List ℕ) → same (x ++ y) (x ++ z) ≡ same y z
-unfolding same
-same-both [] y z = refl
-same-both (a ∷ x) y z = rw (eq-eqb a a refl, same-both x y z)
-
-same-zeros : (x : List ℕ) → same x (zeros (length x)) ≡ allOf isZero x
-unfolding same allOf
-same-zeros [] = refl
-same-zeros (a ∷ x) = rw (same-zeros x)
-
--- the same of so many bytes
-zeros-of : (n : ℕ) (x : List ℕ) → length x ≡ n → same x (zeros n) ≡ allOf isZero x
-zeros-of n x e = rw (← e) (same-zeros x)
 
 module _ (b : List ℕ) (len : length b ≡ 512) where
   cut : take 12 (drop 496 b) ≡ take 8 (drop 496 b) ++ take 4 (drop 504 b)

@@ -1,13 +1,13 @@
 -- A fill's action and the record that it is otherwise, as code takes them.
-use Prim.Native.Nat.{ℕ, _+_, _*_, _/_, _≤_, _<_}
+use Prim.Native.Nat.{ℕ, _+_, _*_, _≤_, _<_}
 use mathlib.Core.Path.{_≡_, sym, ap, _∙_}
 use mathlib.Core.Bool.{Bool, true, false, cond, not, _&&_, and-false, and-eq-true-iff, false≢true}
 use mathlib.Core.List.{List}
 use native.Mathlib.Decide.{decLe, ℕ-discrete}
 use native.Mathlib.Omega.{arith}
-use lib.ListN.{length, getD, set, drop, length-take, length-drop}
+use lib.ListN.{length, getD, set, drop}
 use lib.Dec.{eqb}
-use lib.Seq.{getD-drop, getD-take, take-all}
+use lib.Seq.{getD-drop, getD-take}
 use borrow.Author.Tests.{eqb-true, eq-eqb, lt-leb}
 use Rattle.records.specs.Bytes.{leAt}
 use Rattle.records.specs.Chunks.{chunkAt}
@@ -33,10 +33,6 @@ unfolding plainOf
 plain-is d part out e h o =
     let w : putAt d 0 part ≡ part = put-whole d part (omega arith) in
     rw (o, w) (put-one part actionAt 0 h)
-
--- a record has 32 bytes
-pub record-size : (xs : List ℕ) (i : ℕ) → i < length xs / 32 → length (chunkAt 32 xs i) ≡ 32
-record-size xs i h = simp (length-take, length-drop) (omega arith)
 
 -- ---- a good record
 
@@ -70,10 +66,6 @@ plain-unpaid xs e =
           | yes q ↦ q
           | no q ↦ absurd (p (omega arith))
         ]
-
--- a record of its own as the first of a table
-pub first-record : (xs : List ℕ) → length xs ≡ 32 → chunkAt 32 xs 0 ≡ xs
-first-record xs e = take-all 32 xs (omega arith)
 
 -- ---- a fill by its action
 

@@ -2,7 +2,7 @@
 use Prim.Native.Nat.{ℕ, suc, _+_, _/_, _≤_, _<_}
 use mathlib.Core.Path.{_≡_, refl, sym, ap, _∙_}
 use mathlib.Core.Bool.{Bool, true, false, cond, _&&_, false≢true}
-use mathlib.Core.List.{List, [], _∷_, _++_, append-nil}
+use mathlib.Core.List.{List, [], _∷_, _++_, append-assoc, append-nil}
 use native.Mathlib.Decide.{decLe}
 use native.Mathlib.Omega.{arith}
 use lib.Dec.{eqb, leb}
@@ -171,15 +171,11 @@ module _ {xs rows : List ℕ} {n i : ℕ} (m : Merging xs rows n i) (x : Leg) (h
       let s : Stand bytes (r .rows) (merged (m .before ++ x ∷ [])) = rw (← q) (rw o at (p .stand)) in
       record {
         before = m .before ++ x ∷ [];
-        whole = append-one (m .before) x (rowsFrom unmarked xs (i + 1)) ∙ ap (λ (l : List Leg). m .before ++ l) (sym next) ∙ m .whole;
+        whole = append-assoc (m .before) (x ∷ []) (rowsFrom unmarked xs (i + 1)) ∙ ap (λ (l : List Leg). m .before ++ l) (sym next) ∙ m .whole;
         stand = s;
         few = omega (arith, s .count, ap length (merged-snoc (m .before) x), length-opened x (merged (m .before)), m .stand .count, m .few);
         asked = m .asked ∙ past-good (m .before) (rowsFrom unmarked xs (i + 1)) (rowsFrom unmarked xs i) i x next (omega (arith, now-held));
       }
-    where
-      append-one : (a : List Leg) (b : Leg) (c : List Leg) → (a ++ b ∷ []) ++ c ≡ a ++ b ∷ c
-      append-one [] b c = refl
-      append-one (y ∷ a) b c = ap (λ (t : List Leg). y ∷ t) (append-one a b c)
 
   pub merging-stop : (r .number ≡ 0 → ⊥) → Refused (refuse 19 1 i) ≡ mergedOf (startingLegs xs)
   unfolding mergedOf

@@ -2,7 +2,7 @@
 use Prim.Native.Nat.{ℕ, suc, _+_, _-_, _*_, _/_, _%_, _≤_, _<_}
 use mathlib.Core.Path.{_≡_, refl, sym, ap, _∙_}
 use mathlib.Core.Bool.{Bool, true, false, cond, _&&_}
-use mathlib.Core.List.{List, [], _∷_, _++_, map, append-nil}
+use mathlib.Core.List.{List, [], _∷_, _++_, map, append-assoc, append-nil}
 use native.Mathlib.Decide.{decLe}
 use native.Mathlib.Omega.{arith}
 use lib.Dec.{eqb, leb}
@@ -20,13 +20,13 @@ use Rattle.records.specs.declared.refusals.Fault.{Fault}
 use Rattle.records.specs.declared.refusals.Fault.the-variants.{Nothing, Is}
 use Rattle.records.specs.declared.tables.Kind.the-variants.{Holdings}
 use Rattle.records.specs.declared.tables.Counted.the-variants.{Records}
-use Rattle.records.proofs.LegLaws.{contracts-range, paid-range, length-leg-bytes, leg-good}
+use Rattle.records.proofs.LegLaws.{contracts-range, paid-range, leg-good}
 use Rattle.records.proofs.LineLaws.{line-sym}
 use Rattle.records.proofs.ListLaws.{map-all}
 use Rattle.records.proofs.PassLaws.{Pass, clear, unclear, pass-left, pass-right, pass-both, each-pass}
 use Rattle.records.proofs.PutLaws.{put-front, put-past}
 use Rattle.records.proofs.TableLaws.{ranges, fields-good}
-use Rattle.records.proofs.ChunkLaws.{records-append, length-rows}
+use Rattle.records.proofs.ChunkLaws.{length-rows}
 use Rattle.fills.specs.Fills.{isOpen, fillLeg}
 use Rattle.fills.specs.Rows.{heldOf, fewer, opened, closed, mergedInto, merged, bytesOf, unmarked, startingLegs}
 use Rattle.fills.specs.Played.{openNumber, numberOver, rowsAfter, playedOver, refusedOver}
@@ -41,7 +41,7 @@ use Rattle.fills.proofs.LedgerLaws.{fill-range, fill-unpaid, fill-open,
 use Rattle.fills.proofs.MergeLaws.{held-merged, merged-snoc, length-opened}
 use Rattle.fills.proofs.PlayLaws.{Tabled, tables-clear}
 use Rattle.fills.proofs.RowLaws.{all-opened, all-closed, left-some, length-opened-is}
-use Rattle.fills.proofs.StandLaws.{length-bytes, one-record, legs-back}
+use Rattle.fills.proofs.StandLaws.{length-bytes, records-back, legs-back}
 use Rattle.fills.proofs.UnpaidLaws.{unpaid, starting-is, unpaid-same, start-same}
 
 -- rows that make a table of holdings
@@ -147,10 +147,6 @@ fine-over rows (x ∷ xs) f = fine-over (rowsAfter rows x) xs (fine-after rows x
 
 -- ---- the starting rows
 
-append-one : (a : List Leg) (b : Leg) (c : List Leg) → (a ++ b ∷ []) ++ c ≡ a ++ b ∷ c
-append-one [] b c = refl
-append-one (y ∷ a) b c = ap (λ (t : List Leg). y ∷ t) (append-one a b c)
-
 -- the records before, merged: in range, not marked, and no more than they were
 record Started (before : List Leg) : Type 0 where
   pub good : All (λ l. inRange 0 l ≡ true) (merged before)
@@ -170,7 +166,7 @@ started before (x ∷ xs) i s p a u =
       unpaid = rw (merged-snoc before x) (unpaid-opened x (merged before) (u .0) (s .unpaid));
       few = rw (merged-snoc before x) (omega (arith, length-opened x (merged before), s .few));
     } in
-    rw (← append-one) (started (before ++ x ∷ []) xs (i + 1) next (p .1) (a .1) (u .1))
+    rw (← append-assoc before (x ∷ []) xs) (started (before ++ x ∷ []) xs (i + 1) next (p .1) (a .1) (u .1))
 
 -- ---- a call that is not refused
 
@@ -245,11 +241,8 @@ listed h f result indices numbers n k e = go (firstOf (playChecks h f result ind
 -- ---- its table
 
 records-good : (rows : List Leg) → All (λ l. inRange 0 l ≡ true) rows → All (λ r. goodRecord Holdings r ≡ true) (recordsOf (bytesOf rows))
-unfolding bytesOf chunks
-records-good [] a = tt
-records-good (x ∷ xs) a =
-    rw (records-append 1 (legBytes x) (bytesOf xs) (length-leg-bytes x), one-record x)
-    (leg-good 0 x (omega arith) (a .0), records-good xs (a .1))
+records-good rows a =
+    rw (records-back rows) (map-all legBytes (λ r. goodRecord Holdings r ≡ true) (λ l. inRange 0 l ≡ true) rows (λ l e. leg-good 0 l (omega arith) e) a)
 
 whole-bytes : (rows : List Leg) → Fine rows → wholeTable Holdings (length (bytesOf rows)) ≡ true
 whole-bytes rows f =
@@ -300,7 +293,7 @@ unfolding mergedInto
 merged-apart rows [] a = sym (append-nil rows)
 merged-apart rows (x ∷ xs) a =
     rw (opened-new x rows (apart-front rows xs x a))
-    (merged-apart (rows ++ x ∷ []) xs (rw (append-one rows x xs) a) ∙ append-one rows x xs)
+    (merged-apart (rows ++ x ∷ []) xs (rw (append-assoc rows (x ∷ []) xs) a) ∙ append-assoc rows (x ∷ []) xs)
 
 again : (rows : List Leg) → Fine rows → Apart rows → rowsPlayed (bytesOf rows) [] ≡ rows
 unfolding rowsPlayed playedOver chunks
@@ -317,7 +310,7 @@ past-apart before [] i a g = tt
 past-apart before (x ∷ xs) i a g = (
   le-leb (contractsOf x before + x .contracts .0) mostContracts
       (omega (arith, contracts-apart x before (apart-front before xs x a), ranges 0 x (g .0) .contracts .1)),
-  past-apart (before ++ x ∷ []) xs (i + 1) (rw (append-one before x xs) a) (g .1),
+  past-apart (before ++ x ∷ []) xs (i + 1) (rw (append-assoc before (x ∷ []) xs) a) (g .1),
 )
 
 -- a table of rows apart, played over by no fills, is refused nothing

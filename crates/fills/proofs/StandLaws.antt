@@ -2,19 +2,19 @@
 use Prim.Native.Nat.{ℕ, suc, _+_, _-_, _*_, _≤_, _<_}
 use mathlib.Core.Path.{_≡_, refl, sym, ap, _∙_}
 use mathlib.Core.Bool.{true}
-use mathlib.Core.List.{List, [], _∷_, _++_, append-assoc, append-nil}
+use mathlib.Core.List.{List, [], _∷_, _++_, map, map-append, append-nil, flatten}
 use native.Mathlib.Omega.{arith}
-use lib.ListN.{length, getD, take, drop, length-append, length-drop, take-append-drop}
-use lib.Seq.{take-at, drop-at, take-take, take-all, drop-cons, length-take-le}
-use Rattle.records.specs.Chunks.{chunks, chunkAt, recordsOf}
+use lib.ListN.{length, getD, take, drop, length-append, length-drop, length-map, take-append-drop}
+use lib.Seq.{take-at, drop-at, take-take, drop-cons, length-take-le}
+use Rattle.records.specs.Chunks.{chunkAt, recordsOf}
 use Rattle.records.specs.Legs.{legOf, legBytes, inRange}
 use Rattle.records.specs.Lists.{All}
 use Rattle.records.specs.Tables.{mostLegs, legsOf}
 use Rattle.records.specs.Written.{putAt}
 use Rattle.records.specs.declared.legs.Leg.{Leg}
-use Rattle.records.proofs.ChunkLaws.{records-append}
+use Rattle.records.proofs.JoinLaws.{flatten-append, flatten-one, length-flatten, records-joined}
 use Rattle.records.proofs.LegLaws.{length-leg-bytes, leg-back}
-use Rattle.records.proofs.ListLaws.{all-append, all-at, all-take, all-drop}
+use Rattle.records.proofs.ListLaws.{map-all, every, all-append, all-at, all-take, all-drop}
 use Rattle.records.proofs.PutLaws.{length-putAt}
 use Rattle.fills.specs.Rows.{bytesOf}
 use Rattle.fills.specs.Steps.{rowsIn, Stand}
@@ -26,19 +26,24 @@ Good rows = All (λ l. inRange 0 l ≡ true) rows
 
 -- ---- the table of rows
 
-pub bytes-append : (a b : List Leg) → bytesOf (a ++ b) ≡ bytesOf a ++ bytesOf b
-unfolding bytesOf
-bytes-append [] b = refl
-bytes-append (x ∷ a) b = rw (bytes-append a b, append-assoc)
+-- the rows' records, joined
+bytes-flatten : (rows : List Leg) → bytesOf rows ≡ flatten (map legBytes rows)
+unfolding bytesOf flatten
+bytes-flatten [] = refl
+bytes-flatten (x ∷ rows) = rw (bytes-flatten rows)
+
+each-whole : (rows : List Leg) → All (λ r. length r ≡ 32) (map legBytes rows)
+each-whole rows = map-all legBytes (λ r. length r ≡ 32) (λ l. length (legBytes l) ≡ 32) rows (λ l e. e) (every rows length-leg-bytes)
+
+bytes-append : (a b : List Leg) → bytesOf (a ++ b) ≡ bytesOf a ++ bytesOf b
+bytes-append a b =
+    rw (bytes-flatten (a ++ b), bytes-flatten a, bytes-flatten b, map-append legBytes a b) (flatten-append (map legBytes a) (map legBytes b))
 
 pub length-bytes : (l : List Leg) → length (bytesOf l) ≡ 32 * length l
-unfolding bytesOf
-length-bytes [] = refl
-length-bytes (x ∷ l) = rw (length-append (legBytes x) (bytesOf l), length-leg-bytes x, length-bytes l) (omega arith)
+length-bytes l = rw (bytes-flatten l, length-flatten 32 (map legBytes l) (each-whole l), length-map)
 
-pub bytes-one : (x : Leg) → bytesOf (x ∷ []) ≡ legBytes x
-unfolding bytesOf
-bytes-one x = append-nil (legBytes x)
+bytes-one : (x : Leg) → bytesOf (x ∷ []) ≡ legBytes x
+bytes-one x = bytes-flatten (x ∷ []) ∙ flatten-one (legBytes x)
 
 module _ (l : List Leg) (i : ℕ) (h : i ≤ length l) where
   front : length (bytesOf (take i l)) ≡ 32 * i
@@ -53,17 +58,17 @@ module _ (l : List Leg) (i : ℕ) (h : i ≤ length l) where
   pub drop-bytes : drop (32 * i) (bytesOf l) ≡ bytesOf (drop i l)
   drop-bytes = rw split (drop-at (bytesOf (take i l)) (bytesOf (drop i l)) (32 * i) front)
 
-pub one-record : (x : Leg) → recordsOf (legBytes x) ≡ legBytes x ∷ []
-unfolding chunks
-one-record x = rw (length-leg-bytes x) (ap (λ (t : List ℕ). t ∷ []) (take-all 32 (legBytes x) (omega (arith, length-leg-bytes x))))
+pub records-back : (rows : List Leg) → recordsOf (bytesOf rows) ≡ map legBytes rows
+records-back rows = rw (bytes-flatten rows) (records-joined (map legBytes rows) (each-whole rows))
+
+each-back : (rows : List Leg) → Good rows → map legOf (map legBytes rows) ≡ rows
+each-back [] g = refl
+each-back (x ∷ rows) g = rw (leg-back 0 x (omega arith) (g .0), each-back rows (g .1))
 
 -- rows in their ranges are read as they were written
 pub legs-back : (rows : List Leg) → Good rows → legsOf (bytesOf rows) ≡ rows
-unfolding legsOf bytesOf chunks
-legs-back [] g = refl
-legs-back (x ∷ rows) g =
-    rw (records-append 1 (legBytes x) (bytesOf rows) (length-leg-bytes x), one-record x, leg-back 0 x (omega arith) (g .0))
-    (ap (λ (t : List Leg). x ∷ t) (legs-back rows (g .1)))
+unfolding legsOf
+legs-back rows g = rw (records-back rows) (each-back rows g)
 
 -- ---- rows that stand
 

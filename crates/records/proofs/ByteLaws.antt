@@ -18,10 +18,6 @@ pub leAt-next : (xs : List ℕ) (at w : ℕ) → leAt xs at (suc w) ≡ getD xs 
 unfolding leAt
 leAt-next xs at w = refl
 
-pub leAt-none : (xs : List ℕ) (at : ℕ) → leAt xs at 0 ≡ 0
-unfolding leAt
-leAt-none xs at = refl
-
 -- the low m bytes, and above them the other n
 pub leAt-split : (xs : List ℕ) (m n at : ℕ) → leAt xs at (m + n) ≡ leAt xs at m + 256 ^ m * leAt xs (at + m) n
 unfolding leAt

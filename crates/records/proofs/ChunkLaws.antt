@@ -94,10 +94,17 @@ records-append n xs ys e =
     let m : length xs / 32 ≡ n = omega arith in
     rw (q, m) (chunks-append 32 n (length ys / 32) xs ys e)
 
+-- a record of its own as the first of a table
+pub first-record : (xs : List ℕ) → length xs ≡ 32 → chunkAt 32 xs 0 ≡ xs
+first-record xs e = take-all 32 xs (omega arith)
+
 module _ (xs : List ℕ) (i : ℕ) where
   -- a record has 32 bytes, and past the last there are fewer
+  pub record-size : i < length xs / 32 → length (chunkAt 32 xs i) ≡ 32
+  record-size h = simp (length-take, length-drop) (omega arith)
+
   pub record-whole : i < length xs / 32 → 32 ≤ length (chunkAt 32 xs i)
-  record-whole h = simp (length-take, length-drop) (omega arith)
+  record-whole h = omega (arith, record-size h)
 
   pub record-past : length xs / 32 ≤ i → length (chunkAt 32 xs i) < 32
   record-past h = simp (length-take, length-drop) (omega arith)

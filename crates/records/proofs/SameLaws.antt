@@ -1,7 +1,7 @@
 -- Two lists compared element by element.
 use mathlib.Core.Path.{_≡_, refl, sym, _∙_}
 use mathlib.Core.Bool.{Bool, true, false, and-eq-true-iff, false≢true}
-use mathlib.Core.List.{List, [], _∷_}
+use mathlib.Core.List.{List, [], _∷_, _++_}
 use Prim.Native.Nat.{ℕ}
 use lib.Dec.{eqb}
 use borrow.Author.Tests.{eq-eqb, eqb-true}
@@ -20,6 +20,12 @@ same-true (x ∷ xs) [] e = absurd (false≢true e)
 same-true (x ∷ xs) (y ∷ ys) e =
     let h = and-eq-true-iff (eqb x y) (same xs ys) .0 e in
     rw (eqb-true x y (h .0), same-true xs ys (h .1))
+
+-- after one front
+pub same-both : (x y z : List ℕ) → same (x ++ y) (x ++ z) ≡ same y z
+unfolding same
+same-both [] y z = refl
+same-both (a ∷ x) y z = rw (eq-eqb a a refl, same-both x y z)
 
 pub true-same : (x y : List ℕ) → x ≡ y → same x y ≡ true
 true-same x y e = rw e (same-refl y)

@@ -5,8 +5,8 @@ use mathlib.Core.List.{List, [], _∷_, _++_, append-assoc}
 use Prim.Native.Nat.{ℕ, suc, _+_, _-_, _*_, _/_, _≤_, _<_}
 use native.Mathlib.Nat.{mul-add, mul-one, mul-zero, sub-zero}
 use native.Mathlib.Omega.{arith}
-use lib.ListN.{length, set, take, drop, length-append, length-set, length-take, length-drop}
-use lib.Seq.{take-all, drop-drop}
+use lib.ListN.{length, set, take, drop, length-append, length-set}
+use lib.Seq.{drop-drop}
 use borrow.Rule.Slice.PartMut.{putMid}
 use Rattle.records.specs.Chunks.{chunkAt}
 use Rattle.records.specs.Legs.{legOf}
@@ -19,7 +19,7 @@ use Rattle.records.specs.declared.refusals.Fault.the-variants.{Nothing, Is}
 use Rattle.records.specs.declared.refusals.Refusal.{Refusal}
 use Rattle.records.specs.declared.tables.Counted.the-variants.{Records, Refused}
 use Rattle.records.specs.declared.tables.Kind.the-variants.{Placement}
-use Rattle.records.proofs.ChunkLaws.{rowsFrom, rows-next, rows-none, part-is}
+use Rattle.records.proofs.ChunkLaws.{rowsFrom, rows-next, rows-none, part-is, record-size}
 use Rattle.records.proofs.PassLaws.{clear}
 use Rattle.records.proofs.PutLaws.{put-next, put-past}
 use Rattle.records.proofs.TableLaws.{legs-all, whole}
@@ -28,9 +28,6 @@ use Rattle.sheets.specs.Sheets.{unpaidLong}
 
 -- ---- one record
 
-pub first-record : (xs : List ℕ) → length xs ≡ 32 → chunkAt 32 xs 0 ≡ xs
-first-record xs e = take-all 32 xs (omega arith)
-
 pub length-record : (r : List ℕ) → length (markedRecord r) ≡ length r
 unfolding markedRecord
 length-record r = go (unpaidLong (legOf r))
@@ -38,9 +35,6 @@ length-record r = go (unpaidLong (legOf r))
     go : (b : Bool) → length (cond b (set r 25 1) r) ≡ length r
     go true = length-set r 25 1
     go false = refl
-
-record-size : (xs : List ℕ) (i : ℕ) → i < length xs / 32 → length (chunkAt 32 xs i) ≡ 32
-record-size xs i h = simp (length-take, length-drop) (omega arith)
 
 pub mark-small : (b : Bool) (r : ℕ) → r ≡ only b 1 → r ≤ 1
 mark-small true r e = omega arith

@@ -1,6 +1,6 @@
 -- 13: the latest short expiry and the earliest long one, as they are gathered, and that no short is later than a long.
 use Prim.Native.Nat.{ℕ, _≤_, min, max}
-use mathlib.Core.Path.{_≡_, refl, sym, _∙_}
+use mathlib.Core.Path.{_≡_, refl, _∙_}
 use mathlib.Core.Bool.{Bool, true, false, cond}
 use mathlib.Core.List.{List, [], _∷_, foldl}
 use native.Mathlib.Omega.{arith}
@@ -11,6 +11,7 @@ use Rattle.records.specs.Legs.{isLong, isShort}
 use Rattle.records.specs.declared.legs.Leg.{Leg}
 use Rattle.records.proofs.ListLaws.{all-map, all-zip}
 use Rattle.records.proofs.Measures.{most-all, most-bound}
+use Rattle.records.proofs.SameLaws.{bool-eq}
 use Rattle.records.proofs.TableLaws.{Ranges}
 use Rattle.spreads.specs.Spreads.{noneOutlives}
 use Rattle.spreads.specs.Gathered.{withExpiry, withLife, never, noFacts}
@@ -95,11 +96,6 @@ none-to-early legs r n =
     most-bound (λ l. only (isShort l) (l .expiry)) (earliestLong legs) legs
     (all-zip legs (λ s q f. short-before (isShort s) s legs (omega (arith, q .expiry)) (λ e. all-map legs (λ l g. g e) f)) r n)
 
-same-truth : (a b : Bool) → (a ≡ true → b ≡ true) → (b ≡ true → a ≡ true) → a ≡ b
-same-truth true b f g = sym (f refl)
-same-truth false true f g = g refl
-same-truth false false f g = refl
-
 -- of legs in their ranges
 pub lives-are : (legs : List Leg) → All (Ranges 32) legs
     → leb (foldl withLife (noFacts .lives) legs .«latest_short») (foldl withLife (noFacts .lives) legs .«earliest_long») ≡ noneOutlives legs
@@ -108,6 +104,6 @@ lives-are legs r =
     let late : foldl withLife (noFacts .lives) legs .«latest_short» ≡ latestShort legs = omega (arith, v .0) in
     let early : foldl withLife (noFacts .lives) legs .«earliest_long» ≡ earliestLong legs = omega (arith, v .1, v .2) in
     rw (late, early)
-    (same-truth (leb (latestShort legs) (earliestLong legs)) (noneOutlives legs)
+    (bool-eq (leb (latestShort legs) (earliestLong legs)) (noneOutlives legs)
     (λ e. all-to-none-outlives legs (early-to-none legs (leb-true _ _ e)))
     (λ e. le-leb _ _ (none-to-early legs r (none-outlives-to-all legs e))))

@@ -2,87 +2,16 @@
 
 #![forbid(unsafe_code)]
 
+mod clone;
 #[path = "../common/scripts.rs"]
 mod scripts;
+mod together;
 
 use std::fs;
 use std::os::unix::fs::symlink;
-use std::path::{Path, PathBuf};
-use std::process::{Command, Stdio};
 
-use scripts::{put_script, put_tools, told, Folder, Told};
-
-const TOOLS: [&str; 20] = [
-    "awk", "basename", "bash", "cat", "cp", "cut", "dirname", "env", "find", "grep", "ln", "ls", "mkdir",
-    "mktemp", "mv", "nproc", "rm", "sort", "wc", "xargs",
-];
-
-/// Proves every code but one that has the word wrong, and does not understand one that has the word torn; where
-/// there is the word below, a crate below it is not proved. It leaves a part behind, and says whether it has
-/// found one. Asked for a check of the repository itself, it says that all is proved.
-const CHECK: &str = "[ \"$1\" != check ] || exit 0\n\
-                     [ \"$1\" = dev ] || exit 2\n\
-                     kept=target/inc/$2/kept code=crates/$2/src/lib.rt\n\
-                     if [ \"$2\" = nothing ]; then mkdir -p $kept; exit 0; fi\n\
-                     ! grep -q torn $code || exit 2\n\
-                     [ -f crates.txt ] && [ -d target/rlib ] && [ -d target/stamp ] && [ -d crates/below/src ] || exit 2\n\
-                     [ ! -f $kept/part ] || echo taken over\n\
-                     mkdir -p $kept && echo part >$kept/part\n\
-                     if grep -q below $code; then echo logic=not-proved; echo rt: FAILED: below; exit 1; fi\n\
-                     if grep -q wrong $code; then echo logic=not-proved; exit 1; fi\n\
-                     echo logic=proved";
-
-struct Clone {
-    folder: Folder,
-}
-
-impl Clone {
-    /// Two crates, one over the other; the upper one has these edits.
-    fn with(name: &str, edits: &[(&str, &str)]) -> Clone {
-        let clone = Clone { folder: Folder::new(&format!("edits-{name}")) };
-        let root = Path::new(env!("CARGO_MANIFEST_DIR")).join("..");
-        for folder in [".ci", "crates/above/src", "crates/below/src", "target/rlib", "target/stamp"] {
-            fs::create_dir_all(clone.beside(folder)).expect("a folder");
-        }
-        fs::copy(root.join(".ci/edits"), clone.beside(".ci/edits")).expect("a script");
-        clone.put("crates.txt", "below:\nabove: below\n");
-        clone.put("crates/above/src/lib.rt", "one\nright & \\1 right-hand\n");
-        clone.put("crates/below/src/lib.rt", "one\n");
-        clone.put("crates/above/proofs/Lib.antt", "right\n");
-        for (name, text) in edits {
-            clone.put(&format!("crates/above/must-fail/more/{name}.edit"), text);
-        }
-        put_tools(&clone.beside("tools"), &TOOLS);
-        put_script(&clone.beside("tools/rt"), CHECK);
-        clone
-    }
-
-    fn beside(&self, name: &str) -> PathBuf {
-        self.folder.0.join(name)
-    }
-
-    fn put(&self, name: &str, text: &str) {
-        let file = self.beside(name);
-        fs::create_dir_all(file.parent().expect("it stands in a folder")).expect("a folder");
-        fs::write(file, text).expect("a file");
-    }
-
-    fn text(&self, name: &str) -> String {
-        fs::read_to_string(self.beside(name)).expect("a file")
-    }
-
-    fn run(&self, arguments: &[&str]) -> Told {
-        let mut command = Command::new(self.beside(".ci/edits"));
-        command.env_clear().env("PATH", self.beside("tools"));
-        told(command.args(arguments).stdin(Stdio::null()).output().expect("the script runs"))
-    }
-}
-
-/// The last line, and the exit status.
-fn ending(run: &Told) -> (&str, i32) {
-    assert_eq!(run.err, "");
-    (run.out.lines().last().unwrap_or(""), run.status)
-}
+use clone::{ending, Clone, CODE};
+use scripts::put_script;
 
 /// One edit by itself: what is said of it, after its name, and the ending.
 fn tried(name: &str, edit: &str) -> (String, String, i32) {
@@ -106,7 +35,7 @@ fn refused_edits_pass_and_the_crate_stays_as_it_was() {
     let two = "# a comment\nfile: src/lib.rt\nold: one\nnew:\nold: right & \\1\nnew: wrong & \\1";
     let clone = Clone::with("refused", &[("first", two), ("unedited", WRONG)]);
     assert_eq!(ending(&clone.run(&[])), ("2 passed, 0 failed", 0));
-    assert_eq!(clone.text("crates/above/src/lib.rt"), "one\nright & \\1 right-hand\n");
+    assert_eq!(clone.text("crates/above/src/lib.rt"), CODE);
     for name in ["first", "unedited"] {
         let log = clone.text(&format!("target/edits/above/{name}.log"));
         assert_eq!(log, "taken over\nlogic=not-proved\n", "over the parts of the unedited crate");

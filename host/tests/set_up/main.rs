@@ -12,8 +12,10 @@ use std::process::{Command, Stdio};
 
 use scripts::{put_script, put_tools, told, Folder, Told};
 
-const TOOLS: [&str; 12] =
-    ["awk", "bash", "cat", "cp", "dirname", "env", "mktemp", "nproc", "rm", "sed", "tail", "tee"];
+const TOOLS: [&str; 14] = [
+    "awk", "bash", "cat", "cp", "dirname", "env", "mktemp", "nice", "nproc", "rm", "sed", "sleep", "tail",
+    "tee",
+];
 const PACKAGES: &str = "cargo rustc gcc g++ libc6-dev";
 const CARGO: &str = "case \"$*\" in\n\
                      --version) echo cargo 1 ;;\n\
@@ -92,6 +94,13 @@ impl Machine {
         asked.lines().map(String::from).collect()
     }
 
+    /// The same, sorted: the edits begin beside the proof.
+    fn asked_in_all(&self) -> Vec<String> {
+        let mut asked = self.asked();
+        asked.sort();
+        asked
+    }
+
     fn run(&self, script: &str, arguments: &[&str]) -> Told {
         let mut command = Command::new(self.beside("clone").join(script));
         command.env_clear().env("PATH", self.beside("tools")).env("TMPDIR", self.beside("temporary"));
@@ -121,10 +130,11 @@ fn with_all_there_nothing_is_installed_and_everything_counted() {
         ("14 passed, 0 failed", 0, ""),
         "3 proved, 4 edits refused, 6 tested, README's command"
     );
-    assert_eq!(machine.asked(), ["rt ci", "edits ", "rt staticlib usm_c"]);
+    let parts = ["edits --as-proved", "rt ci", "rt staticlib usm_c"];
+    assert_eq!(machine.asked_in_all(), parts);
     fs::remove_file(machine.tool("nproc")).expect("it was there");
     assert_eq!(ending(&machine.gate()), ("14 passed, 0 failed", 0, ""), "nobody says how many processors");
-    assert_eq!(machine.asked()[3..], ["rt ci", "edits ", "rt staticlib usm_c"]);
+    assert_eq!(machine.asked_in_all(), [[parts[0]; 2], [parts[1]; 2], [parts[2]; 2]].concat());
 }
 
 #[test]
@@ -141,7 +151,8 @@ fn root_gets_what_is_missing_installed_before_anything_is_proved() {
     let message = format!("x86-cargo: installing {PACKAGES}\n");
     assert_eq!(ending(&machine.gate()), ("14 passed, 0 failed", 0, message.as_str()));
     let install = format!("apt-get install -y --no-install-recommends {PACKAGES}");
-    assert_eq!(machine.asked(), ["apt-get update", &install, "rt ci", "edits ", "rt staticlib usm_c"]);
+    assert_eq!(machine.asked()[..2], ["apt-get update", &install]);
+    assert_eq!(machine.asked_in_all()[2..], ["edits --as-proved", "rt ci", "rt staticlib usm_c"]);
 }
 
 /// A compiler without headers and a cargo without a toolchain are as good as none.
@@ -228,14 +239,37 @@ fn the_last_line_counts_what_failed() {
     assert_eq!(failing("rt-3", "rt", "echo '2 passed, 0 failed'; exit 3"), count("2 passed, 1 failed", 1));
     assert_eq!(
         failing("library", "rt", "[ \"$1\" = ci ] && echo '2 passed, 0 failed'"),
-        count("6 passed, 1 failed", 1)
+        count("2 passed, 1 failed", 1)
     );
     let one_fails = CARGO.replace("ok. 2 passed; 0 failed;", "FAILED. 1 passed; 1 failed;");
-    assert_eq!(failing("tests", "cargo", &one_fails), count("10 passed, 3 failed", 1));
+    assert_eq!(failing("tests", "cargo", &one_fails), count("6 passed, 3 failed", 1));
     let machine = Machine::whole("edits");
     put_script(&machine.beside("clone/.ci/edits"), "echo '3 passed, 1 failed'; exit 1");
-    assert_eq!(ending(&machine.gate()), ("6 passed, 1 failed", 1, ""), "an edit that is not refused");
+    assert_eq!(ending(&machine.gate()), ("12 passed, 1 failed", 1, ""), "an edit that is not refused");
     let machine = Machine::whole("second-command");
     put_script(&machine.beside("clone/check-sheet"), "echo ACCEPT 2 1");
     assert_eq!(ending(&machine.gate()), ("13 passed, 1 failed", 1, ""));
+}
+
+#[test]
+fn edits_end_with_the_gate() {
+    let machine = Machine::whole("ends");
+    let (process, wait) = (machine.beside("process"), machine.beside("clone/.ci/edits"));
+    // What goes on is not the script itself, but a program that it has started.
+    put_script(&wait, &format!("sleep 600 & echo $! >'{}'; wait", process.display()));
+    let failing = format!(
+        "until [ -s '{}' ]; do sleep 0.1; done; echo '2 passed, 1 failed'; exit 1",
+        process.display()
+    );
+    machine.put("rt", &failing);
+    assert_eq!(ending(&machine.gate()), ("2 passed, 1 failed", 1, ""));
+    let process = fs::read_to_string(process).expect("it had begun");
+    let words = PathBuf::from(format!("/proc/{}/cmdline", process.trim()));
+    let lives = || fs::read(&words).map_or(false, |words| !words.is_empty());
+    for _ in 0..50 {
+        if lives() {
+            std::thread::sleep(std::time::Duration::from_millis(100));
+        }
+    }
+    assert!(!lives(), "nothing goes on after the gate");
 }

@@ -6,10 +6,10 @@ use Rattle.bench.proofs.run.Statement.{statement}
 use Rattle.bench.proofs.run.Tie as tie
 
 abbrev Inv-loop : tie.InvT-loop
-Inv-loop script memory₀ sizes₀ at₀ memory sizes at = (length memory ≡ length memory₀) × (length sizes ≡ length sizes₀)
+Inv-loop script memory₀ at₀ memory at = length memory ≡ length memory₀
 
 abbrev μ-loop : tie.MeasureT-loop
-μ-loop script memory₀ sizes₀ at₀ memory sizes at = length script - at
+μ-loop script memory₀ at₀ memory at = length script - at
 
 pub run-spec : {M : Type 1} → statement M
 run-spec =
@@ -21,7 +21,6 @@ run-spec =
     (λ c κs. search needs)
     (λ c κs. search needs)
     (λ c κs. search needs)
-    (λ c. search needs)
     (λ c. search needs)
     (λ c. search needs)
     (λ c. search needs)

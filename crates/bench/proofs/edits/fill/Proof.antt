@@ -6,10 +6,10 @@ use Rattle.bench.proofs.edits.fill.Statement.{statement}
 use Rattle.bench.proofs.edits.fill.Tie as tie
 
 abbrev Inv-loop : tie.InvT-loop
-Inv-loop line memory₀ sizes₀ name n strike group i₀ memory sizes i = (length memory ≡ length memory₀) × (length sizes ≡ length sizes₀)
+Inv-loop line memory₀ name n strike group i₀ memory i = length memory ≡ length memory₀
 
 abbrev μ-loop : tie.MeasureT-loop
-μ-loop line memory₀ sizes₀ name n strike group i₀ memory sizes i = n - i
+μ-loop line memory₀ name n strike group i₀ memory i = n - i
 
 pub fill-spec : {M : Type 1} → statement M
 fill-spec =
@@ -25,7 +25,6 @@ fill-spec =
     (λ c κs. search needs)
     (λ c. search needs)
     (λ c κs. search needs)
-    (λ c. search needs)
     (λ c. search needs)
     (λ c. search needs)
     (λ c. search needs)

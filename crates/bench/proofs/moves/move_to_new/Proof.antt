@@ -19,5 +19,4 @@ move-to-new-spec =
     (λ c κs. search needs)
     (λ c. search needs)
     (λ c. search needs)
-    (λ c. search needs)
     (λ c. search needs))

@@ -1,7 +1,7 @@
 use denote.Ref.{now}
 use borrow.Author.Needs.{needs}
+use Rattle.records.proofs.ChunkLaws.{first-record}
 use Rattle.fills.specs.Fills.{goodPlain}
-use Rattle.fills.proofs.FillLaws.{first-record}
 use Rattle.fills.proofs.fill.good_plain.Statement.{statement}
 use Rattle.fills.proofs.fill.good_plain.Tie as tie
 

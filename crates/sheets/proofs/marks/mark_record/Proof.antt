@@ -4,9 +4,9 @@ use denote.Ref.{now}
 use borrow.Author.Needs.{needs}
 use Rattle.records.specs.Legs.{legOf}
 use Rattle.records.specs.declared.legs.Leg.{Leg}
+use Rattle.records.proofs.ChunkLaws.{first-record}
 use Rattle.sheets.specs.Marks.{markedRecord}
 use Rattle.sheets.specs.Sheets.{unpaidLong}
-use Rattle.sheets.proofs.MarkLaws.{first-record}
 use Rattle.sheets.proofs.marks.mark_record.Statement.{statement}
 use Rattle.sheets.proofs.marks.mark_record.Tie as tie
 
