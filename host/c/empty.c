@@ -110,6 +110,29 @@ static void try_fills(void)
     compare("usm_play_fills", answer);
 }
 
+/* Roots, list and holdings, each there or not, and either way round. */
+static void try_lists(void)
+{
+    static const char line[] = "AAPL  110521C00060000 L 10\n";
+    uint64_t answer[USM_ANSWER_NUMBERS];
+    uint8_t roots[USM_ROOT_BYTES] = "AAPL  ", table[USM_RECORD_BYTES], list[USM_LIST_BYTES];
+    put(roots, USM_ROOT_STYLE, 1, USM_AMERICAN);
+    put(roots, USM_ROOT_MARKET, 1, USM_LISTED);
+    put(roots, USM_ROOT_UNIT_SIZE, 2, 100);
+    put(roots, USM_ROOT_UNDERLYING, 4, 7);
+    for (int there = 0; there < 8; there++) {
+        int rooted = there & 1, listed = there & 2, lent = there & 4;
+        usm_import(rooted ? roots : none(), rooted ? sizeof roots : 0,
+                   listed ? (const uint8_t *)line : none(), listed ? sizeof line - 1 : 0,
+                   lent ? table : none(), lent ? sizeof table : 0, answer);
+        compare("usm_import", answer);
+        usm_export(rooted ? roots : none(), rooted ? sizeof roots : 0,
+                   listed ? holdings : none(), listed ? sizeof holdings : 0,
+                   lent ? list : none(), lent ? sizeof list : 0, answer);
+        compare("usm_export", answer);
+    }
+}
+
 /* The length and the address of a table that is there or is not. */
 #define TABLE(there, table) (there) ? (table) : none(), (there) ? sizeof (table) : 0
 
@@ -150,6 +173,7 @@ static void try_all(void)
     }
     try_groups();
     try_fills();
+    try_lists();
     for (int there = 0; there < 8; there++)
         try_tables(there);
     usm_check_file(none(), 0, answer);

@@ -260,6 +260,31 @@ static int mark_a_long(void)
     return accepted("usm_check_sheet", answer);
 }
 
+/* A member's list of symbols becomes holdings, and the same list again; a root that is not told is 24. */
+static int import_a_list(void)
+{
+    static const char list[] = "AAPL  110521C00060000 L 10\nAAPL  110521C00050000 S 10\n";
+    const size_t list_len = sizeof list - 1;
+    uint8_t roots[USM_ROOT_BYTES] = "AAPL  ", holdings[2 * USM_RECORD_BYTES], back[USM_LIST_BYTES];
+    uint64_t answer[USM_ANSWER_NUMBERS];
+    put(roots, USM_ROOT_STYLE, 1, USM_AMERICAN);
+    put(roots, USM_ROOT_MARKET, 1, USM_LISTED);
+    put(roots, USM_ROOT_UNIT_SIZE, 2, 100);
+    put(roots, USM_ROOT_SETTLEMENT, 1, USM_PHYSICAL);
+    put(roots, USM_ROOT_UNDERLYING, 4, 7);
+    usm_import(roots, sizeof roots, (const uint8_t *)list, list_len, holdings, sizeof holdings, answer);
+    if (refused("usm_import", answer))
+        return 0;
+    printf("a list of %" PRIu64 " holdings", answer[1]);
+    usm_export(roots, sizeof roots, holdings, sizeof holdings, back, sizeof back, answer);
+    if (refused("usm_export", answer) || answer[1] != list_len || memcmp(back, list, list_len) != 0)
+        return 0;
+    printf(", and the same list again\n");
+    roots[0] = 'B';
+    usm_import(roots, sizeof roots, (const uint8_t *)list, list_len, holdings, sizeof holdings, answer);
+    return refused("usm_import", answer);
+}
+
 /* An empty table is NULL and 0. */
 static int write_nothing(void)
 {
@@ -276,7 +301,8 @@ int main(void)
     if (!print_records(USM_HOLDINGS, sheet.holdings, sizeof sheet.holdings) ||
         !print_records(USM_PLACEMENT, sheet.placement, sizeof sheet.placement) ||
         !claim_margins(&sheet) || !print_margin(&sheet, 2) || !print_cash() || !print_worksheet(&sheet, 1) ||
-        !check(&sheet) || !write_and_read_back(&sheet) || !play_a_day(&sheet) || !mark_a_long())
+        !check(&sheet) || !write_and_read_back(&sheet) || !play_a_day(&sheet) || !mark_a_long() ||
+        !import_a_list())
         return 1;
 
     /* There is no group 3 (6), a claim one mill short is 16, and three empty tables make no file. */

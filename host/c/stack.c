@@ -22,6 +22,8 @@ static uint32_t strikes[USM_MOST_LEGS];
 static int64_t nets[USM_MOST_LEGS];
 static uint8_t fills[USM_MOST_FILLS * USM_RECORD_BYTES], result[USM_LEGS_BYTES], numbers[USM_MOST_FILLS];
 static uint32_t indices[USM_MOST_FILLS];
+static uint8_t roots[USM_MOST_ROOTS * USM_ROOT_BYTES], list[USM_LIST_BYTES];
+static size_t list_len;
 static uint8_t line[USM_LINE_BYTES];
 static uint8_t text[USM_TABLE_BYTES];
 static uint64_t answer[USM_ANSWER_NUMBERS], origin[USM_ORIGIN_NUMBERS];
@@ -69,6 +71,21 @@ static void make_tables(void)
     }
 }
 
+/* As many roots as there may be, of underlyings 1 to 256: the holdings are of one of them. */
+static void make_roots(void)
+{
+    for (unsigned i = 0; i < USM_MOST_ROOTS; i++) {
+        uint8_t *root = roots + i * USM_ROOT_BYTES;
+        memcpy(root + USM_ROOT_NAME, "R     ", 6);
+        put(root, USM_ROOT_NAME + 1, 1, 'A' + i / 16);
+        put(root, USM_ROOT_NAME + 2, 1, 'A' + i % 16);
+        put(root, USM_ROOT_STYLE, 1, USM_AMERICAN);
+        put(root, USM_ROOT_MARKET, 1, USM_LISTED);
+        put(root, USM_ROOT_UNIT_SIZE, 2, 100);
+        put(root, USM_ROOT_UNDERLYING, 4, i + 1);
+    }
+}
+
 static void check_table(void) { usm_check_table(USM_PLACEMENT, placement, sizeof placement, answer); }
 static void margin(void) { usm_margin(placement, sizeof placement, 32, answer); }
 static void cash(void) { usm_cash(cash_group, sizeof cash_group, 1, answer); }
@@ -99,6 +116,15 @@ static void play_fills(void)
 {
     usm_play_fills(holdings, sizeof holdings, fills, sizeof fills, result, sizeof result,
                    indices, USM_MOST_FILLS, numbers, USM_MOST_FILLS, answer);
+}
+static void export_list(void)
+{
+    usm_export(roots, sizeof roots, holdings, sizeof holdings, list, sizeof list, answer);
+    list_len = (size_t)answer[1];
+}
+static void import_list(void)
+{
+    usm_import(roots, sizeof roots, list, list_len, result, sizeof result, answer);
 }
 static void file_line(void) { usm_file_line(file, file_len, line); }
 static void file_table(void) { usm_file_table(file, file_len, text); }
@@ -133,9 +159,10 @@ int main(void)
 {
     static void (*const calls[])(void) = {
         check_table, margin, cash, margins, worksheet, mark_paid, check_sheet, check_file, read_file, write_file,
-        move_to_new, move_to_old, play_fills,
+        move_to_new, move_to_old, play_fills, export_list, import_list,
     };
     make_tables();
+    make_roots();
     write_file();
     file_len = (size_t)answer[1];
     size_t share = used(nothing), most = used(file_line), shown = used(file_table);

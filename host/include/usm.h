@@ -9,6 +9,8 @@
  *   placement  0 to 256 leg records of 32 bytes, group 0 (not placed) or 1 to 32
  *   claims     0 to 32 claim records of 32 bytes
  *   fills      0 to 1,024 leg records of 32 bytes, group 0, with an action
+ *   roots      1 to 256 roots of 16 bytes: what the roots of option symbols stand for
+ *   list       0 to 256 lines of 26 to 31 bytes: option symbols with side and contracts
  *   file       1 to 39 blocks of 512 bytes, of the old form or of the new one, which has the
  *              number of the account in each block
  *
@@ -25,9 +27,9 @@
  *               answered.
  *   answer      Exactly four numbers, always written in full:
  *                 success  { 0, ... }  the results, as told at each call
- *                 refusal  { number, table, place, 0 }, number 1 to 21 but 18, which
+ *                 refusal  { number, table, place, 0 }, number 1 to 24 but 18, which
  *                          is only listed
- *               table: 0 none, 1 holdings, 2 placement, 3 claims, 4 fills.
+ *               table: 0 none, 1 holdings, 2 placement, 3 claims, 4 fills, 5 roots, 6 list.
  *   Buffers     On a refusal nothing lent is written but `answer`, and the `line` and `text` of
  *               the two calls that print. On success what lies past the output stays as it was.
  *   Threads     No call keeps any state: the library has no variables, takes no memory and
@@ -41,8 +43,9 @@
  * What each call answers and leaves in what it is lent is proved; how pointers, threads and the
  * stack behave is tested, in C and in C++, on each build of the library.
  *
- * REFUSALS by number, with table and place (blocks and records count from 0, groups from 1). 1 to 16
- * are looked for in this order, 20 after 3 in each block, 21 after 13; 17 and 19 as told at each call.
+ * REFUSALS by number, with table and place (blocks, records, roots and lines count from 0, groups from
+ * 1). 1 to 16 are looked for in this order, 20 after 3 in each block, 21 after 13; 17, 19 and 22 to 24 as
+ * told at each call.
  *
  *    1  a table not whole records or over its limit; a file empty, not whole
  *       blocks or over 39; nothing to write                       0, 0
@@ -72,6 +75,11 @@
  *       after 3 in each block; or a zero account supplied         or 0, 0
  *   21  the group is not fit for a cash account, after 13; of
  *       usm_cash only                                             2, group
+ *   22  a line of a list is malformed or has no newline           6, line
+ *   23  the table of roots has a wrong size; or a root is ill     5, 0;
+ *       formed, out of range or repeats an earlier one            or 5, root
+ *   24  a line's root, or a record's terms, are not in the        6, line;
+ *       table of roots                                            or 1, record
  */
 
 #ifndef USM_H
@@ -94,16 +102,19 @@ enum {
     USM_MOST_LEGS = 256,
     USM_MOST_CLAIMS = 32,
     USM_MOST_FILLS = 1024,
+    USM_ROOT_BYTES = 16,
+    USM_MOST_ROOTS = 256,
     USM_LEGS_BYTES = 8192,     /* the longest holdings or placement table */
     USM_CLAIMS_BYTES = 1024,   /* the longest claims table */
     USM_LONGEST_FILE = 19968,
+    USM_LIST_BYTES = 7936,     /* the longest list that usm_export makes: 256 lines of 31 bytes */
     USM_LINE_BYTES = 64,
     USM_TABLE_BYTES = 8704,    /* no table is longer than 8,608 */
     USM_STACK_BYTES = 65536
 };
 
 /* The numbers of the tables, as `kind` in (1 to 3) and as `table` out. */
-enum { USM_HOLDINGS = 1, USM_PLACEMENT = 2, USM_CLAIMS = 3, USM_FILLS = 4 };
+enum { USM_HOLDINGS = 1, USM_PLACEMENT = 2, USM_CLAIMS = 3, USM_FILLS = 4, USM_ROOTS = 5, USM_LIST = 6 };
 
 /* The refusals, answer[0]; 0 is success. */
 enum {
@@ -127,7 +138,10 @@ enum {
     USM_MORE_CLOSED_THAN_HELD = 18,
     USM_TOO_MUCH_HELD = 19,
     USM_WRONG_ACCOUNT = 20,
-    USM_NOT_FIT_FOR_CASH = 21
+    USM_NOT_FIT_FOR_CASH = 21,
+    USM_LINE_MALFORMED = 22,
+    USM_ROOTS_ILL_FORMED = 23,
+    USM_NOT_IN_ROOTS = 24
 };
 
 /* The forms of a file. */
@@ -164,6 +178,17 @@ enum { USM_AMERICAN = 1, USM_EUROPEAN = 2 };
 enum { USM_LISTED = 1, USM_OTC = 2 };
 enum { USM_NOT_STATED = 0, USM_CASH = 1, USM_PHYSICAL = 2 };
 enum { USM_OPEN = 1, USM_CLOSE = 2 };
+
+/* Where the fields of a root begin; each ends where the next begins, the last with the root. */
+enum {
+    USM_ROOT_NAME = 0,         /* 6 bytes: 1 to 6 of A-Z and 0-9, a letter first, padded right with blanks */
+    USM_ROOT_STYLE = 6,        /* 1 byte: as of a leg, and so the other terms */
+    USM_ROOT_MARKET = 7,       /* 1 byte */
+    USM_ROOT_UNIT_SIZE = 8,    /* 2 bytes */
+    USM_ROOT_SETTLEMENT = 10,  /* 1 byte */
+    USM_ROOT_FILLER = 11,      /* 1 byte: zero */
+    USM_ROOT_UNDERLYING = 12   /* 4 bytes */
+};
 
 /* Where the fields of a claim record begin; all other bytes are zero. */
 enum {
@@ -335,6 +360,32 @@ void usm_play_fills(const uint8_t *holdings, size_t holdings_len,
                     uint8_t *result, size_t result_len,
                     uint32_t *indices, size_t indices_len,
                     uint8_t *numbers, size_t numbers_len, uint64_t *answer);
+
+/*
+ * Makes a member's list of option symbols into holdings: a record for each line, in their order, with
+ * paid mark 0, from byte 0. A line is "AAPL  110521C00060000 L 10" and a newline: the root, padded to 6
+ * characters with blanks; YYMMDD, of 2000 to 2099; C or P; the strike in mills as 8 digits; blank; L or S;
+ * blank; the contracts as 1 to 6 digits, the first not 0. Style, market, unit size, settlement and
+ * underlying are those of the line's root. No two roots are the same, and no two have these five the same.
+ *   success  { 0, records, 0, 0 }; bytes past the records stay. An empty list makes none
+ *   refusals 23, table 5, place the first bad root, or 0 for a table that is not 1 to 256 whole roots;
+ *            then, lines in order, 22, 4 (no real date, a strike of 0, more than 100,000 contracts) and
+ *            24, each with table 6 and the line; 1, table 0, place 0, for more than 256 lines; 17,
+ *            table 1, place the bytes needed. USM_LEGS_BYTES are always enough.
+ */
+void usm_import(const uint8_t *roots, size_t roots_len, const uint8_t *list, size_t list_len,
+                uint8_t *holdings, size_t holdings_len, uint64_t *answer);
+
+/*
+ * Makes holdings into a list of option symbols, the reverse of usm_import: a line for each record, in
+ * their order, from byte 0. Imported again, with the same roots, it is the same holdings.
+ *   success  { 0, bytes of the list, 0, 0 }; bytes past the list stay
+ *   refusals 23 as usm_import; 1 for the holdings; then, records in order, 4, also for paid mark 1, and 24
+ *            for terms that no root has, each with table 1 and the record; 17, table 6, place the bytes
+ *            needed. USM_LIST_BYTES are always enough.
+ */
+void usm_export(const uint8_t *roots, size_t roots_len, const uint8_t *holdings, size_t holdings_len,
+                uint8_t *list, size_t list_len, uint64_t *answer);
 
 /*
  * The line that usm_check prints for this file, "ACCEPT groups total\n" or

@@ -1,7 +1,7 @@
-//! Legs and sheets in the notation of document 01's "Accounts on the bench": for the samples,
+//! Legs, roots and sheets in the notation of document 01's "Accounts on the bench": for the samples,
 //! the benchmark and the tests.
 
-use crate::records::{Claim, Leg, Market, OptionType, Settlement, Side, Style};
+use crate::records::{padded_root, Claim, Leg, Market, OptionType, Root, Settlement, Side, Style};
 use crate::sheet::Sheet;
 
 /// One leg, as `L60c` for long a call at 60 dollars: listed, American, unit 100, one
@@ -35,6 +35,17 @@ pub fn leg(notation: &str) -> Leg {
         settlement: Settlement::NotStated,
         paid: false,
     }
+}
+
+/// The root of this name that stands for the terms of such a leg.
+///
+/// # Panics
+///
+/// If it is no name of a root.
+pub fn root(name: &str) -> Root {
+    let Leg { style, market, unit_size, settlement, underlying, .. } = leg("L60c");
+    let name = padded_root(name).expect("a name of a root");
+    Root { name, style, market, unit_size, settlement, underlying }
 }
 
 /// Several contracts of a leg.

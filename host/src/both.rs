@@ -22,6 +22,8 @@ pub struct Calls {
     pub move_to_new: fn(&[u8], u64, &mut [u8]) -> Result<usize, Refusal>,
     pub move_to_old: fn(&[u8], &mut [u8]) -> Result<usize, Refusal>,
     pub play_fills: fn(&[u8], &[u8], &mut [u8], &mut [u32], &mut [u8]) -> Result<PlayCounts, Refusal>,
+    pub import: fn(&[u8], &[u8], &mut [u8]) -> Result<usize, Refusal>,
+    pub export: fn(&[u8], &[u8], &mut [u8]) -> Result<usize, Refusal>,
     pub file_line: fn(&[u8]) -> String,
     pub file_table: fn(&[u8]) -> String,
 }
@@ -42,6 +44,8 @@ pub const LIBRARY: Calls = Calls {
     move_to_new: calls::move_to_new,
     move_to_old: calls::move_to_old,
     play_fills: calls::play_fills,
+    import: calls::import,
+    export: calls::export,
     file_line: calls::file_line,
     file_table: calls::file_table,
 };
@@ -62,6 +66,8 @@ pub const MODEL: Calls = Calls {
     move_to_new: model::move_to_new,
     move_to_old: model::move_to_old,
     play_fills: model::play_fills,
+    import: model::import,
+    export: model::export,
     file_line: model::file_line,
     file_table: model::file_table,
 };

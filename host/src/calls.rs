@@ -212,6 +212,57 @@ pub fn play_fills(
         .map(|[records, refused, _]| PlayCounts { records: records as usize, refused: refused as usize })
 }
 
+/// Makes holdings of a list of option symbols, in line order and without paid marks, by a table of roots;
+/// answers how many records there are.
+///
+/// 23 for the roots; line by line 22, 4 and 24; then 1 for more than 256 lines, and 17 with the bytes needed.
+///
+/// ```
+/// use usm::{import, padded_root, Leg, Market, Refusal, Root, Settlement, Style};
+/// let root = Root {
+///     name: padded_root("AAPL").unwrap(),
+///     style: Style::American,
+///     market: Market::Listed,
+///     unit_size: 100,
+///     settlement: Settlement::Physical,
+///     underlying: 7,
+/// };
+/// let mut record = [0; 32];
+/// assert_eq!(import(&root.to_bytes(), b"AAPL  110521C00060000 L 5\n", &mut record), Ok(1));
+/// let held = Leg::from_bytes(&record).unwrap();
+/// assert_eq!((held.expiry, held.strike, held.contracts), (20110521, 60_000, 5));
+/// assert_eq!(import(&[], b"", &mut record), Err(Refusal::new(23, 5, 0)));
+/// ```
+pub fn import(roots: &[u8], list: &[u8], holdings: &mut [u8]) -> Result<usize, Refusal> {
+    ask(|answer| ffi::import(roots, list, holdings, answer)).map(|[records, ..]| records as usize)
+}
+
+/// Writes holdings without paid marks as a list of option symbols, a line for each record, by a table of
+/// roots; answers the list's length in bytes, which is at most [`crate::LONGEST_LIST`].
+///
+/// 23 for the roots; 1; record by record 4, also for a paid mark, and 24; then 17 with the bytes needed.
+///
+/// ```
+/// use usm::{export, import, padded_root, Market, Refusal, Root, Settlement, Style};
+/// let root = Root {
+///     name: padded_root("SPX").unwrap(),
+///     style: Style::European,
+///     market: Market::Listed,
+///     unit_size: 100,
+///     settlement: Settlement::Cash,
+///     underlying: 7,
+/// };
+/// let (roots, list) = (root.to_bytes(), b"SPX   110521P01250000 S 12\n");
+/// let (mut holdings, mut back) = ([0; 32], [0; 40]);
+/// import(&roots, list, &mut holdings)?;
+/// assert_eq!(export(&roots, &holdings, &mut back), Ok(27));
+/// assert_eq!(&back[..27], list);
+/// # Ok::<(), Refusal>(())
+/// ```
+pub fn export(roots: &[u8], holdings: &[u8], list: &mut [u8]) -> Result<usize, Refusal> {
+    ask(|answer| ffi::export(roots, holdings, list, answer)).map(|[bytes, ..]| bytes as usize)
+}
+
 /// The line `usm_check` prints for this file, with its newline.
 ///
 /// ```

@@ -108,6 +108,26 @@ extern "C" {
         answer: *mut u64,
     );
 
+    fn usm_import(
+        roots: *const u8,
+        roots_len: usize,
+        list: *const u8,
+        list_len: usize,
+        holdings: *mut u8,
+        holdings_len: usize,
+        answer: *mut u64,
+    );
+
+    fn usm_export(
+        roots: *const u8,
+        roots_len: usize,
+        holdings: *const u8,
+        holdings_len: usize,
+        list: *mut u8,
+        list_len: usize,
+        answer: *mut u64,
+    );
+
     fn usm_file_line(file: *const u8, file_len: usize, line: *mut u8) -> usize;
 
     fn usm_file_table(file: *const u8, file_len: usize, text: *mut u8) -> usize;
@@ -252,6 +272,34 @@ pub fn play_fills(
             indices.len(),
             numbers.as_mut_ptr(),
             numbers.len(),
+            answer.as_mut_ptr(),
+        )
+    }
+}
+
+pub fn import(roots: &[u8], list: &[u8], holdings: &mut [u8], answer: &mut Answer) {
+    unsafe {
+        usm_import(
+            roots.as_ptr(),
+            roots.len(),
+            list.as_ptr(),
+            list.len(),
+            holdings.as_mut_ptr(),
+            holdings.len(),
+            answer.as_mut_ptr(),
+        )
+    }
+}
+
+pub fn export(roots: &[u8], holdings: &[u8], list: &mut [u8], answer: &mut Answer) {
+    unsafe {
+        usm_export(
+            roots.as_ptr(),
+            roots.len(),
+            holdings.as_ptr(),
+            holdings.len(),
+            list.as_mut_ptr(),
+            list.len(),
             answer.as_mut_ptr(),
         )
     }

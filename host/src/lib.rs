@@ -4,7 +4,8 @@
 //! [docs/RULES.md](../../../../docs/RULES.md) of the repository, and what each call promises in
 //! `include/usm.h`. Work on Rust values with [`Sheet`], or on the bytes of tables and files with the
 //! functions beside it. Every input is answered: with a result, or with the first [`Refusal`] in the
-//! rules' order, whose [`Reason`] names it. [`play`] builds holdings from a day's fills. [`sentences`] says
+//! rules' order, whose [`Reason`] names it. [`play`] builds holdings from a day's fills, and
+//! [`holdings_of_list`] from a list of option symbols. [`sentences`] says
 //! for people what is wrong, and [`text`] reads and writes sheets as text.
 //!
 //! No call keeps any state: all may be made from any number of threads at once.
@@ -38,6 +39,7 @@ pub mod program;
 mod calls;
 mod fills;
 mod form;
+mod lists;
 mod reason;
 mod records;
 mod refusal;
@@ -45,16 +47,18 @@ mod sheet;
 
 pub use block::{BLOCK_BYTES, LONGEST_FILE, MOST_BLOCKS};
 pub use calls::{
-    cash, check_file, check_sheet, check_table, file_line, file_table, margin, margins, mark_paid,
-    move_to_new, move_to_old, play_fills, read_file, worksheet, write_file,
+    cash, check_file, check_sheet, check_table, export, file_line, file_table, import, margin, margins,
+    mark_paid, move_to_new, move_to_old, play_fills, read_file, worksheet, write_file,
 };
 pub use fills::{fill_table, play, Played};
 pub use form::{Form, Origin};
+pub use lists::{holdings_of_list, list_of_holdings, root_table};
 pub use reason::Reason;
 pub use records::{
-    is_expiry, Action, Claim, Fill, Leg, Line, Market, OptionType, Series, Settlement, Side, Style, Table,
-    FILLS_TABLE, GREATEST_AMOUNT, GREATEST_STRIKE, GREATEST_UNIT_SIZE, MOST_CLAIMS, MOST_CONTRACTS,
-    MOST_FILLS, MOST_LEGS, RECORD_BYTES,
+    is_expiry, padded_root, Action, Claim, Fill, Leg, Line, Market, OptionType, Root, Series, Settlement,
+    Side, Style, Table, FILLS_TABLE, GREATEST_AMOUNT, GREATEST_STRIKE, GREATEST_UNIT_SIZE, LIST_TABLE,
+    LONGEST_LINE, LONGEST_LIST, MOST_CLAIMS, MOST_CONTRACTS, MOST_FILLS, MOST_LEGS, MOST_LINES, MOST_ROOTS,
+    RECORD_BYTES, ROOTS_TABLE, ROOT_BYTES, ROOT_NAME_BYTES,
 };
 pub use refusal::{Accepted, PlayCounts, RecordCounts, Refusal};
 pub use sheet::{claim_table, leg_table, Sheet, Tables};

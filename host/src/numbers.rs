@@ -52,8 +52,13 @@ pub fn ordinal(place: u64) -> String {
     format!("{}{ending}", grouped(number))
 }
 
-/// A count and what is counted: `1 contract`, `2 contracts`.
-pub(crate) fn count(number: impl Display + PartialEq<u64>, one: &str) -> String {
+/// A count and what is counted.
+///
+/// ```
+/// use usm::numbers::count;
+/// assert_eq!([1, 2_000].map(|number: u64| count(number, "contract")), ["1 contract", "2,000 contracts"]);
+/// ```
+pub fn count(number: impl Display + PartialEq<u64>, one: &str) -> String {
     let plural = if number == 1 { "" } else { "s" };
     format!("{} {one}{plural}", grouped(number))
 }

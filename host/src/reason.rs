@@ -1,6 +1,6 @@
 //! Why a call refuses, as a name beside its number in documents 01 and 02.
 
-/// Why a sheet, a table, a file or a fill is refused. The numbers are those of documents 01 and 02, in whose
+/// Why a sheet, a table, a file, a fill or a list is refused. The numbers are those of documents 01 and 02, in whose
 /// order refusals are looked for; `docs/RULES.md` tells of each. Later rules may bring more.
 ///
 /// ```
@@ -54,11 +54,17 @@ pub enum Reason {
     WrongAccount = 20,
     /// 21: a group is not fit for a cash account: not all European, all stated as cash, and of one expiry.
     NotFitForCash = 21,
+    /// 22: a line of a list is malformed, or ends without a newline.
+    LineMalformed = 22,
+    /// 23: a table of roots has a wrong size, or a root that is ill formed, out of range or repeats an earlier one.
+    RootsIllFormed = 23,
+    /// 24: the root of a line, or the terms of a record, are not in the table of roots.
+    NotInRoots = 24,
 }
 
 impl Reason {
     /// All of them, in the order of their numbers.
-    pub const ALL: [Reason; 21] = [
+    pub const ALL: [Reason; 24] = [
         Reason::WrongSize,
         Reason::ChecksDiffer,
         Reason::BlockOutOfForm,
@@ -80,6 +86,9 @@ impl Reason {
         Reason::TooMuchHeld,
         Reason::WrongAccount,
         Reason::NotFitForCash,
+        Reason::LineMalformed,
+        Reason::RootsIllFormed,
+        Reason::NotInRoots,
     ];
 
     /// Its number in documents 01 and 02.
@@ -98,10 +107,10 @@ mod tests {
     use super::*;
 
     #[test]
-    fn reasons_are_numbered_1_to_21() {
+    fn reasons_are_numbered_1_to_24() {
         let numbers: Vec<u64> = Reason::ALL.into_iter().map(Reason::number).collect();
-        assert_eq!(numbers, (1..=21).collect::<Vec<u64>>());
+        assert_eq!(numbers, (1..=24).collect::<Vec<u64>>());
         assert!(Reason::ALL.into_iter().all(|reason| Reason::of_number(reason.number()) == Some(reason)));
-        assert_eq!([0, 22, u64::MAX].map(Reason::of_number), [None; 3]);
+        assert_eq!([0, 25, u64::MAX].map(Reason::of_number), [None; 3]);
     }
 }

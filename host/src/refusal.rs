@@ -42,11 +42,11 @@ pub struct PlayCounts {
 /// `usm_check` prints.
 #[derive(Clone, Copy, Debug, PartialEq, Eq)]
 pub struct Refusal {
-    /// 1 to 21.
+    /// 1 to 24.
     pub number: u64,
-    /// 0 none, 1 holdings, 2 placement, 3 claims, 4 fills.
+    /// 0 none, 1 holdings, 2 placement, 3 claims, 4 fills, 5 roots, 6 list.
     pub table: u64,
-    /// A block, a record, a group or a count, by the number.
+    /// A block, a record, a line, a root, a group or a count, by the number.
     pub place: u64,
 }
 

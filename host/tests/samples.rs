@@ -8,8 +8,11 @@ use std::collections::BTreeMap;
 use std::fs;
 use std::path::{Path, PathBuf};
 
-use usm::both::BOTH;
-use usm::{play, sentences, text, Sheet};
+use usm::both::{Calls, BOTH};
+use usm::{
+    holdings_of_list, leg_table, list_of_holdings, play, root_table, sentences, text, Refusal, Root, Sheet,
+    LONGEST_LIST,
+};
 
 fn committed() -> PathBuf {
     Path::new(env!("CARGO_MANIFEST_DIR")).join("../samples")
@@ -28,8 +31,9 @@ fn files_in(folder: &Path) -> BTreeMap<String, Vec<u8>> {
         .collect()
 }
 
-/// The rows `| name | line | what it shows |` of the table in samples/README.md.
-fn table() -> BTreeMap<String, String> {
+/// The rows `| name | line | what it shows |` of the tables in samples/README.md: of those that stand in a
+/// folder, or of the sheet files.
+fn table(folder: Option<&str>) -> BTreeMap<String, String> {
     let readme = fs::read_to_string(committed().join("README.md")).expect("samples/README.md");
     readme
         .lines()
@@ -42,16 +46,22 @@ fn table() -> BTreeMap<String, String> {
                 _ => None,
             }
         })
+        .filter(|(name, _)| name.split_once('/').map(|(before, _)| before) == folder)
         .collect()
+}
+
+/// The samples made anew, in a folder of the test's own.
+fn made(test: &str) -> PathBuf {
+    let made = common::folder(test);
+    let status =
+        common::program(env!("CARGO_BIN_EXE_usm_samples")).arg(&made).status().expect("usm_samples runs");
+    assert!(status.success());
+    made
 }
 
 #[test]
 fn the_committed_samples_are_what_the_program_makes() {
-    let made = common::folder("samples");
-    let status =
-        common::program(env!("CARGO_BIN_EXE_usm_samples")).arg(&made).status().expect("usm_samples runs");
-    assert!(status.success());
-    let (made, committed) = (files_in(&made), files_in(&committed()));
+    let (made, committed) = (files_in(&made("samples")), files_in(&committed()));
     assert_eq!(made.keys().collect::<Vec<_>>(), committed.keys().collect::<Vec<_>>());
     for (name, bytes) in &made {
         assert!(bytes == &committed[name], "{name} is not what usm_samples makes");
@@ -61,12 +71,8 @@ fn the_committed_samples_are_what_the_program_makes() {
 /// The folder of fills: what the program makes of it, what the page says, and what playing gives.
 #[test]
 fn the_fills_make_todays_holdings_of_yesterdays() {
-    let made = common::folder("samples-fills");
-    let status =
-        common::program(env!("CARGO_BIN_EXE_usm_samples")).arg(&made).status().expect("usm_samples runs");
-    assert!(status.success());
     let committed = committed().join("fills");
-    assert_eq!(files_in(&made.join("fills")), files_in(&committed));
+    assert_eq!(files_in(&made("samples-fills").join("fills")), files_in(&committed));
     let text = |name: &str| fs::read_to_string(committed.join(name)).expect(name);
     let yesterday = text::parse(&text("yesterday.txt")).expect("holdings").holdings;
     let fills = text::parse_fills(&text("fills.txt")).expect("fills");
@@ -81,9 +87,56 @@ fn the_fills_make_todays_holdings_of_yesterdays() {
     assert_eq!(sentences, text("refused.txt").lines().collect::<Vec<&str>>());
 }
 
+/// What a call answers for a file of the folder of lists, as the table has it: a list that is read by the roots,
+/// other roots for the list, or holdings that are to be listed.
+fn answer(calls: &Calls, name: &str, files: &BTreeMap<String, Vec<u8>>) -> String {
+    let text = |name: &str| String::from_utf8(files[name].clone()).expect("UTF-8");
+    let roots = |name: &str| -> Vec<u8> { root_table(&text::parse_roots(&text(name)).expect("roots")) };
+    let refused = |refusal: Refusal| refusal.line().trim_end().to_string();
+    let held = || leg_table(&text::parse(&text(name)).expect("holdings").holdings);
+    let import = |roots: &[u8], list: &str| {
+        let records = (calls.import)(roots, &files[list], &mut vec![0; 256 * 32]);
+        records.map_or_else(refused, |records| format!("{records} records"))
+    };
+    match name {
+        "roots.txt" | "list.txt" => import(&roots("roots.txt"), "list.txt"),
+        _ if name.starts_with("roots-") => import(&roots(name), "list.txt"),
+        _ if name.starts_with("held-") || name == "holdings.txt" => {
+            let bytes = (calls.export)(&roots("roots.txt"), &held(), &mut vec![0; LONGEST_LIST]);
+            bytes.map_or_else(refused, |bytes| format!("{bytes} bytes"))
+        }
+        _ => import(&roots("roots.txt"), name),
+    }
+}
+
+#[test]
+fn every_list_has_the_answer_in_the_table() {
+    let folder = committed().join("lists");
+    let files = files_in(&folder);
+    assert_eq!(files_in(&made("samples-lists").join("lists")), files);
+    let table = table(Some("lists"));
+    let names: Vec<String> = files.keys().map(|name| format!("lists/{name}")).collect();
+    assert_eq!(table.keys().collect::<Vec<_>>(), names.iter().collect::<Vec<_>>(), "a row for each file");
+    for (name, line) in &table {
+        for calls in &BOTH {
+            assert_eq!(&answer(calls, &name["lists/".len()..], &files), line, "{name}, {}", calls.name);
+        }
+    }
+}
+
+#[test]
+fn the_list_and_the_holdings_are_one_another() {
+    let folder = committed().join("lists");
+    let text = |name: &str| fs::read_to_string(folder.join(name)).expect(name);
+    let roots: Vec<Root> = text::parse_roots(&text("roots.txt")).expect("roots");
+    let holdings = holdings_of_list(&roots, text("list.txt").as_bytes()).expect("holdings");
+    assert_eq!(text::show_holdings(&holdings), text("holdings.txt"));
+    assert_eq!(list_of_holdings(&roots, &holdings), Ok(text("list.txt").into_bytes()));
+}
+
 #[test]
 fn every_sample_prints_the_line_in_the_table() {
-    let (table, files) = (table(), files_in(&committed()));
+    let (table, files) = (table(None), files_in(&committed()));
     let sheets: Vec<&String> = files.keys().filter(|name| name.ends_with(".usm")).collect();
     assert!(sheets.len() >= 12, "a dozen samples");
     assert_eq!(sheets, table.keys().collect::<Vec<_>>(), "the table has one row for each sample");

@@ -11,14 +11,13 @@ use lib.Seq.{drop-cons, take-add, drop-drop}
 use borrow.Author.Tests.{eq-eqb}
 use Rattle.records.specs.Bytes.{leAt, isZero, zeroIn}
 use Rattle.records.specs.Lists.{allOf, same}
-use Rattle.records.proofs.ByteLaws.{leAt-next, zero-in}
+use Rattle.records.proofs.ByteLaws.{byte-is, leAt-next, zero-in}
 use Rattle.records.proofs.ListLaws.{allOf-append}
 use Rattle.records.proofs.SameLaws.{same-both}
 use Rattle.blocks.specs.Forms.{kept}
 use Rattle.blocks.specs.Block.{tailFits, tailOf, zeros, bytesWide}
 use Rattle.blocks.specs.declared.forms.Form.{Form}
 use Rattle.blocks.specs.declared.forms.Form.the-variants.{Old, New}
-use Rattle.blocks.proofs.BlockLaws.{byte-is}
 use Rattle.blocks.proofs.SameLaws.{zeros-of}
 
 -- each element is a byte

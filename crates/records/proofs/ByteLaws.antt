@@ -18,6 +18,11 @@ pub leAt-next : (xs : List ℕ) (at w : ℕ) → leAt xs at (suc w) ≡ getD xs 
 unfolding leAt
 leAt-next xs at w = refl
 
+-- a byte is the number of one byte
+pub byte-is : (xs : List ℕ) (at : ℕ) → leAt xs at 1 ≡ getD xs at 0
+unfolding leAt
+byte-is xs at = omega arith
+
 -- the low m bytes, and above them the other n
 pub leAt-split : (xs : List ℕ) (m n at : ℕ) → leAt xs at (m + n) ≡ leAt xs at m + 256 ^ m * leAt xs (at + m) n
 unfolding leAt

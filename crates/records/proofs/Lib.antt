@@ -12,3 +12,4 @@ pub mod DateLaws
 pub mod SameLaws
 pub mod LineLaws
 pub mod LegLaws
+pub mod RecordLaws

@@ -5,8 +5,9 @@ use mathlib.Core.List.{List}
 use Prim.Native.Nat.{ℕ}
 use Rattle.records.specs.Bytes.{leAt}
 use Rattle.records.specs.Chunks.{chunkAt}
-use Rattle.records.specs.Legs.{legOf, legBytes, unitsOf, plusUnits, plusContracts, lessContracts, withContracts, withPaid}
+use Rattle.records.specs.Legs.{contractsFrom, legOf, legBytes, unitsOf, plusUnits, plusContracts, lessContracts, withContracts, withPaid}
 use Rattle.records.specs.Claims.{claimOf}
+use Rattle.records.specs.Dates.{realDate}
 use Rattle.records.specs.Lines.{sameLine, sameLineSide}
 use Rattle.records.specs.Order.{firstOf}
 use Rattle.records.specs.Tables.{tableNumber, goodRecord, inLimit, wholeTable, wholeTables, fieldChecks, fieldsChecks, countedOf}
@@ -30,6 +31,12 @@ leg-at-unique table i r s = one-outcome
 
 claim-at-unique : (table : List ℕ) (i : ℕ) (r s : Claim) → r ≡ claimOf (chunkAt 32 table i) → s ≡ claimOf (chunkAt 32 table i) → r ≡ s
 claim-at-unique table i r s = one-outcome
+
+of-unique : (n : ℕ) (r s : Contracts) → r ≡ contractsFrom n → s ≡ contractsFrom n → r ≡ s
+of-unique n r s = one-outcome
+
+real-date-unique : (n : ℕ) (r s : Bool) → r ≡ realDate n → s ≡ realDate n → r ≡ s
+real-date-unique n r s = one-outcome
 
 units-unique : (c : Contracts) (size : ℕ) (r s : Units) → r ≡ unitsOf c size → s ≡ unitsOf c size → r ≡ s
 units-unique c size r s = one-outcome

@@ -1,13 +1,19 @@
 // A count of contracts never stands in for a count of underlying units: each is a type of its own
 // whose field other crates cannot reach, and only multiplying by unit size leads from one to the other.
 ghost use mathlib.Core.Path.{_≡_};
-ghost use Rattle.records.specs.Legs.{unitsOf, plusUnits, noUnits, plusContracts, lessContracts};
+ghost use Rattle.records.specs.Legs.{contractsFrom, unitsOf, plusUnits, noUnits, plusContracts, lessContracts};
 
 pub struct Contracts(pub(crate) u32);
 
 pub struct Units(u64);
 
 impl Contracts {
+    pub fn of(number: u32) -> Contracts
+        ensures { λ r. ⌜ r ≡ contractsFrom number ⌝ }
+    {
+        Contracts(number)
+    }
+
     pub fn units(self, size: u16) -> Units
         ensures { λ r. ⌜ r ≡ unitsOf self size ⌝ }
     {

@@ -45,7 +45,8 @@ fn good_day(year: u32, month: u32, day: u32) -> bool
     is_within(1, 12, month) & (1 <= day)
 }
 
-pub(crate) fn real_date(n: u32) -> bool
+// Whether a number is such a date.
+pub fn real_date(n: u32) -> bool
     ensures { λ r. ⌜ r ≡ realDate n ⌝ }
 {
     is_within(20000101, 20991231, n) & good_day(n / 10000, n / 100 % 100, n % 100)

@@ -17,7 +17,7 @@ use Rattle.sheets.specs.Verdicts.{verdictOf}
 use Rattle.verdicts.specs.FileVerdicts.{fileVerdict}
 use Rattle.verdicts.specs.TableText.{tableText}
 use Rattle.usm_c.specs.Answers.{dueWords, verdictWords, writingWords, tableWords}
-use Rattle.usm_c.specs.Outcomes.{marginsWords, marginsLeft, worksheetWords, strikesLeft, netsLeft, readWords, tableLeft, originLeft, writeAs, outLeft, movedLeft, playWords, resultLeft, indicesLeft, numbersLeft, fileLine, markWords, placementLeft}
+use Rattle.usm_c.specs.Outcomes.{marginsWords, marginsLeft, worksheetWords, strikesLeft, netsLeft, readWords, tableLeft, originLeft, writeAs, outLeft, movedLeft, playWords, resultLeft, indicesLeft, numbersLeft, fileLine, markWords, placementLeft, importWords, importLeft, exportWords, exportLeft}
 
 -- ---- calls that leave an answer only
 
@@ -98,6 +98,19 @@ module _ (h f d i m : List ℕ) where
 
   numbers-left-unique : (a b : List ℕ) → a ≡ numbersLeft h f d i m → b ≡ numbersLeft h f d i m → a ≡ b
   numbers-left-unique a b = one-outcome
+
+module _ (roots list holdings : List ℕ) where
+  import-unique : (a b : List ℕ) → a ≡ importWords roots list holdings → b ≡ importWords roots list holdings → a ≡ b
+  import-unique a b = one-outcome
+
+  import-left-unique : (a b : List ℕ) → a ≡ importLeft roots list holdings → b ≡ importLeft roots list holdings → a ≡ b
+  import-left-unique a b = one-outcome
+
+  export-unique : (a b : List ℕ) → a ≡ exportWords roots holdings list → b ≡ exportWords roots holdings list → a ≡ b
+  export-unique a b = one-outcome
+
+  export-left-unique : (a b : List ℕ) → a ≡ exportLeft roots holdings list → b ≡ exportLeft roots holdings list → a ≡ b
+  export-left-unique a b = one-outcome
 
 module _ (file line : List ℕ) where
   file-line-unique : (a b : ℕ) → a ≡ length (fileLine file) → b ≡ length (fileLine file) → a ≡ b

@@ -15,7 +15,7 @@ ghost use Rattle.sheets.specs.Verdicts.{verdictOf};
 ghost use Rattle.verdicts.specs.FileVerdicts.{fileVerdict};
 ghost use Rattle.verdicts.specs.TableText.{tableText};
 ghost use Rattle.usm_c.specs.Answers.{dueWords, verdictWords, writingWords, tableWords};
-ghost use Rattle.usm_c.specs.Outcomes.{marginsWords, marginsLeft, worksheetWords, strikesLeft, netsLeft, readWords, tableLeft, originLeft, writeAs, outLeft, movedLeft, playWords, resultLeft, indicesLeft, numbersLeft, fileLine, markWords, placementLeft};
+ghost use Rattle.usm_c.specs.Outcomes.{marginsWords, marginsLeft, worksheetWords, strikesLeft, netsLeft, readWords, tableLeft, originLeft, writeAs, outLeft, movedLeft, playWords, resultLeft, indicesLeft, numbersLeft, fileLine, markWords, placementLeft, importWords, importLeft, exportWords, exportLeft};
 
 mod origins;
 mod words;
@@ -25,6 +25,8 @@ use origins::write_as;
 use verdicts::LINE_BYTES;
 use verdicts::TABLE_BYTES;
 use words::due_words;
+use words::exported_words;
+use words::imported_words;
 use words::listed_words;
 use words::marked_words;
 use words::played_words;
@@ -184,6 +186,24 @@ pub extern "C" fn usm_play_fills(
     ensures { λ _. ⌜ now (numbers .exit) ≡ numbersLeft (now (holdings .entry)) (now (fills .entry)) (now (result .entry)) (now (indices .entry)) (now (numbers .entry)) ⌝ }
 {
     *answer = played_words(fills::play(holdings, fills, result, indices, numbers));
+}
+
+// A member's list of option symbols, by a table of roots, into a lent table of holdings.
+#[no_mangle]
+pub extern "C" fn usm_import(roots: &[u8], list: &[u8], holdings: &mut [u8], answer: &mut [u64; 4])
+    ensures { λ _. ⌜ now (answer .exit) ≡ importWords (now (roots .entry)) (now (list .entry)) (now (holdings .entry)) ⌝ }
+    ensures { λ _. ⌜ now (holdings .exit) ≡ importLeft (now (roots .entry)) (now (list .entry)) (now (holdings .entry)) ⌝ }
+{
+    *answer = imported_words(symbols::import(roots, list, holdings));
+}
+
+// Holdings, by a table of roots, as a list of option symbols in a lent buffer.
+#[no_mangle]
+pub extern "C" fn usm_export(roots: &[u8], holdings: &[u8], list: &mut [u8], answer: &mut [u64; 4])
+    ensures { λ _. ⌜ now (answer .exit) ≡ exportWords (now (roots .entry)) (now (holdings .entry)) (now (list .entry)) ⌝ }
+    ensures { λ _. ⌜ now (list .exit) ≡ exportLeft (now (roots .entry)) (now (holdings .entry)) (now (list .entry)) ⌝ }
+{
+    *answer = exported_words(symbols::export(roots, holdings, list));
 }
 
 // The line that is printed for a sheet file; the answer is its length.

@@ -1,6 +1,6 @@
 // The four words of each kind of answer.
 ghost use mathlib.Core.Path.{_≡_};
-ghost use Rattle.usm_c.specs.Answers.{doneWords, refusedWords, countedWords, dueWords, listedWords, verdictWords, readingWords, writingWords, markedWords, playedWords, tableWords, DueMills, VerdictMills};
+ghost use Rattle.usm_c.specs.Answers.{doneWords, refusedWords, countedWords, dueWords, listedWords, verdictWords, readingWords, writingWords, markedWords, playedWords, importedWords, exportedWords, tableWords, DueMills, VerdictMills};
 use blocks::Reading;
 use blocks::Writing;
 use fills::Played;
@@ -11,6 +11,8 @@ use sheets::Marked;
 use sheets::Verdict;
 use spreads::Due;
 use spreads::Listed;
+use symbols::Exported;
+use symbols::Imported;
 
 // Success, and what it says.
 fn done(a: u64, b: u64, c: u64) -> [u64; 4]
@@ -100,6 +102,24 @@ pub(crate) fn played_words(played: Played) -> [u64; 4]
     match played {
         Played::Done(records, refusals) => done(records as u64, refusals as u64, 0),
         Played::Refused(refusal) => refused(refusal),
+    }
+}
+
+pub(crate) fn imported_words(imported: Imported) -> [u64; 4]
+    ensures { λ r. ⌜ r ≡ importedWords imported ⌝ }
+{
+    match imported {
+        Imported::Records(n) => done(n as u64, 0, 0),
+        Imported::Refused(refusal) => refused(refusal),
+    }
+}
+
+pub(crate) fn exported_words(exported: Exported) -> [u64; 4]
+    ensures { λ r. ⌜ r ≡ exportedWords exported ⌝ }
+{
+    match exported {
+        Exported::Bytes(n) => done(n as u64, 0, 0),
+        Exported::Refused(refusal) => refused(refusal),
     }
 }
 

@@ -9,6 +9,7 @@ mod file;
 mod fills;
 mod sheet;
 mod spread;
+mod symbols;
 mod table;
 mod tables;
 
@@ -165,6 +166,9 @@ fn moved(file: &[u8], from: Form, to: Origin, out: &mut [u8]) -> Result<usize, R
 
 /// Plays fills over holdings; lists those that are refused.
 pub use fills::play as play_fills;
+
+/// Makes holdings of a list of option symbols, and a list of holdings.
+pub use symbols::{export, import};
 
 /// The line `usm_check` prints for this file.
 pub fn file_line(file: &[u8]) -> String {

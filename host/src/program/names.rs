@@ -3,23 +3,11 @@
 use std::ffi::OsStr;
 use std::os::unix::ffi::OsStrExt;
 
-use crate::text::escaped;
+use crate::text::escaped_bytes;
 
 /// A file name as it can be printed: what does not show is escaped, and so are bytes that are no UTF-8.
 pub fn shown(name: impl AsRef<OsStr>) -> String {
-    let mut bytes = name.as_ref().as_bytes();
-    let mut shown = String::new();
-    loop {
-        match std::str::from_utf8(bytes) {
-            Ok(text) => return shown + &escaped(text),
-            Err(error) => {
-                let (good, bad) = bytes.split_at(error.valid_up_to());
-                shown += &escaped(&String::from_utf8_lossy(good));
-                shown += &format!("\\x{:02x}", bad[0]);
-                bytes = &bad[1..];
-            }
-        }
-    }
+    escaped_bytes(name.as_ref().as_bytes())
 }
 
 #[cfg(test)]

@@ -51,6 +51,15 @@ pub enum Settlement {
     Physical = 2,
 }
 
+impl Settlement {
+    pub(super) fn of_byte(byte: u8) -> Option<Settlement> {
+        match byte {
+            0 => Some(Settlement::NotStated),
+            _ => choice(byte, Settlement::Cash, Settlement::Physical),
+        }
+    }
+}
+
 /// One record of holdings or placement.
 ///
 /// The number fields hold what the record's bytes can hold. A value outside
@@ -163,10 +172,7 @@ impl Leg {
             strike: u32_at(record, 12),
             expiry: u32_at(record, 16),
             contracts: u32_at(record, 20),
-            settlement: match record[24] {
-                0 => Settlement::NotStated,
-                settlement => choice(settlement, Settlement::Cash, Settlement::Physical)?,
-            },
+            settlement: Settlement::of_byte(record[24])?,
             paid: match record[25] {
                 0 => false,
                 1 => true,

@@ -4,11 +4,13 @@ mod claim;
 mod date;
 mod fill;
 mod leg;
+mod root;
 
 pub use claim::Claim;
 pub use date::is_expiry;
 pub use fill::{Action, Fill, ACTION_AT};
 pub use leg::{Leg, Line, Market, OptionType, Series, Settlement, Side, Style};
+pub use root::{padded_root, Root, ROOT_BYTES, ROOT_NAME_BYTES};
 
 /// Bytes of a leg record and of a claim record.
 pub const RECORD_BYTES: usize = 32;
@@ -20,6 +22,18 @@ pub const MOST_CLAIMS: usize = 32;
 pub const MOST_FILLS: usize = 1_024;
 /// The number of the table of fills; the three of a sheet have theirs by [`Table`].
 pub const FILLS_TABLE: u64 = 4;
+/// The number of the table of roots.
+pub const ROOTS_TABLE: u64 = 5;
+/// The number of a list of option symbols.
+pub const LIST_TABLE: u64 = 6;
+/// A table of roots has 1 to this many.
+pub const MOST_ROOTS: usize = 256;
+/// A list has at most this many lines: a record of holdings for each.
+pub const MOST_LINES: usize = MOST_LEGS;
+/// The bytes of the longest line of a list: a symbol of 21, a side, contracts of 6 digits, two blanks and a newline.
+pub const LONGEST_LINE: usize = 31;
+/// The bytes of the longest list.
+pub const LONGEST_LIST: usize = MOST_LINES * LONGEST_LINE;
 /// No net, no margin and no accepted total passes this many mills.
 pub const GREATEST_AMOUNT: i64 = 2_560_000_000_000_000_000;
 /// Greatest unit size of a leg.
@@ -63,10 +77,10 @@ impl Table {
     }
 }
 
-fn u16_at(record: &[u8; RECORD_BYTES], at: usize) -> u16 {
+fn u16_at(record: &[u8], at: usize) -> u16 {
     u16::from_le_bytes([record[at], record[at + 1]])
 }
 
-fn u32_at(record: &[u8; RECORD_BYTES], at: usize) -> u32 {
+fn u32_at(record: &[u8], at: usize) -> u32 {
     u32::from_le_bytes([record[at], record[at + 1], record[at + 2], record[at + 3]])
 }

@@ -20,22 +20,25 @@ struct Range {
 
 pub fn sentence(file: &[u8], refusal: &Refusal) -> Option<String> {
     let table = Table::ALL.into_iter().find(|table| table.number() == refusal.table)?;
-    let record = record(file, table, refusal.place)?;
+    of_record(table, &record(file, table, refusal.place)?, refusal.place)
+}
+
+/// The fields of a record, at this place of its table, that are out of range.
+pub fn of_record(table: Table, record: &[u8; RECORD_BYTES], place: u64) -> Option<String> {
     let faults: Vec<String> = ranges(table)
         .into_iter()
-        .map(|range| (get(&record, 0, range.field), range))
+        .map(|range| (get(record, 0, range.field), range))
         .filter(|(value, range)| !(range.holds)(*value))
         .map(|(value, range)| format!("its {} is {value} and must be {}", range.name, range.says))
         .collect();
     let (which, text) = match table {
-        Table::Holdings => ("record of the holdings", raw_text(&record)),
-        Table::Placement => ("record of the placement", raw_text(&record)),
+        Table::Holdings => ("record of the holdings", raw_text(record)),
+        Table::Placement => ("record of the placement", raw_text(record)),
         Table::Claims => {
-            ("claim", format!("claim {} {}", get(&record, 0, GROUP), get(&record, 0, CLAIM_MARGIN)))
+            ("claim", format!("claim {} {}", get(record, 0, GROUP), get(record, 0, CLAIM_MARGIN)))
         }
     };
-    (!faults.is_empty())
-        .then(|| format!("the {} {which} (`{text}`): {}", ordinal(refusal.place), faults.join("; ")))
+    (!faults.is_empty()).then(|| format!("the {} {which} (`{text}`): {}", ordinal(place), faults.join("; ")))
 }
 
 /// A record of a file whose blocks are in form.

@@ -6,10 +6,12 @@ mod boxes;
 mod fields;
 mod fills;
 mod groups;
+mod lines;
 mod moves;
 mod rules;
 mod short;
 mod size;
+mod symbols;
 
 use crate::reason::Reason;
 use crate::refusal::Refusal;
@@ -19,6 +21,7 @@ pub use boxes::of_box;
 pub use fills::of_fills;
 pub use moves::of_move;
 pub(crate) use short::short;
+pub use symbols::{of_export, of_import, of_line};
 
 /// The sentence of a refusal that the check of this file, or its reader, answered.
 ///

@@ -2,19 +2,21 @@
 
 use crate::numbers::ordinal;
 use crate::reason::Reason;
-use crate::records::FILLS_TABLE;
+use crate::records::{FILLS_TABLE, LIST_TABLE, ROOTS_TABLE};
 use crate::refusal::Refusal;
 
 pub fn short(refusal: &Refusal, reason: Reason) -> String {
     let (table, place) = (table_name(refusal.table), ordinal(refusal.place));
     let record = match refusal.table {
         FILLS_TABLE => format!("the {place} fill"),
+        ROOTS_TABLE => format!("the {place} root"),
+        LIST_TABLE => format!("the {place} line of the list"),
         _ => format!("the {place} record of the {table}"),
     };
     match reason {
         Reason::WrongSize => String::from(
             "wrong size: a table must be whole 32-byte records (at most 256 legs, 32 claims, 1,024 fills), \
-             a file 1 to 39 whole 512-byte blocks, and a written sheet needs a record",
+             a list at most 256 lines, a file 1 to 39 whole 512-byte blocks, and a written sheet needs a record",
         ),
         Reason::ChecksDiffer => format!("the {place} block is damaged: a check sum does not fit its bytes"),
         Reason::BlockOutOfForm => format!(
@@ -47,8 +49,25 @@ pub fn short(refusal: &Refusal, reason: Reason) -> String {
             format!("{record} is of a 257th line and side, or makes more than 100,000 contracts of one")
         }
         Reason::TooMuchHeld => format!("{record} makes more than 100,000 contracts of its line and side"),
+        Reason::LineMalformed => format!("{record} is malformed, or ends without a newline"),
+        Reason::RootsIllFormed => ill_formed(&record, refusal.place),
+        Reason::NotInRoots if refusal.table == LIST_TABLE => {
+            format!("{record} has a root that is not in the table of roots")
+        }
+        Reason::NotInRoots => format!(
+            "{record} has terms (style, market, unit size, settlement and underlying) that no root stands for"
+        ),
         _ => of_group(refusal.place, reason),
     }
+}
+
+/// The place 0 is that of the first root, and of the table as a whole.
+fn ill_formed(root: &str, place: u64) -> String {
+    let size = match place {
+        0 => "; or the table is not 1 to 256 whole 16-byte roots",
+        _ => "",
+    };
+    format!("{root} is ill formed, out of range, or repeats an earlier one's name or terms{size}")
 }
 
 /// The reasons whose place is a group.
@@ -79,6 +98,8 @@ fn table_name(table: u64) -> &'static str {
         2 => "placement",
         3 => "claims",
         FILLS_TABLE => "fills",
+        ROOTS_TABLE => "roots",
+        LIST_TABLE => "list",
         _ => "no table",
     }
 }

@@ -1,7 +1,7 @@
 //! Where a text is no sheet, and what was expected there.
 
 use std::error::Error;
-use std::fmt::{self, Display};
+use std::fmt::{self, Debug, Display};
 
 use super::escape::quoted;
 
@@ -30,28 +30,37 @@ impl Display for TextError {
 
 impl Error for TextError {}
 
-/// All that is wrong with a text, in the order of its lines: at most one error a line, and at most
-/// [`TextErrors::MOST_LISTED`] of them listed.
-#[derive(Clone, Debug, Default, PartialEq, Eq)]
-pub struct TextErrors {
-    listed: Vec<TextError>,
+/// Errors in the order in which they stand: at most [`Errors::MOST_LISTED`] of them are listed.
+#[derive(Clone, Debug, PartialEq, Eq)]
+pub struct Errors<E> {
+    listed: Vec<E>,
     unlisted: usize,
 }
 
-impl TextErrors {
+/// All that is wrong with a text, in the order of its lines: at most one error a line.
+pub type TextErrors = Errors<TextError>;
+
+impl<E> Default for Errors<E> {
+    fn default() -> Errors<E> {
+        Errors { listed: Vec::new(), unlisted: 0 }
+    }
+}
+
+impl<E> Errors<E> {
     /// Errors behind so many are counted only.
     pub const MOST_LISTED: usize = 20;
 
-    pub(super) fn add(&mut self, error: TextError) {
-        if self.listed.len() < TextErrors::MOST_LISTED {
+    /// Adds one behind the others.
+    pub fn add(&mut self, error: E) {
+        if self.listed.len() < Self::MOST_LISTED {
             self.listed.push(error);
         } else {
             self.unlisted += 1;
         }
     }
 
-    /// The first errors; there is at least one.
-    pub fn listed(&self) -> &[TextError] {
+    /// The first errors; of a text that is refused there is at least one.
+    pub fn listed(&self) -> &[E] {
         &self.listed
     }
 
@@ -62,7 +71,7 @@ impl TextErrors {
 }
 
 /// One error a line, and a last line that counts those not listed.
-impl Display for TextErrors {
+impl<E: Display> Display for Errors<E> {
     fn fmt(&self, f: &mut fmt::Formatter<'_>) -> fmt::Result {
         for (index, error) in self.listed.iter().enumerate() {
             write!(f, "{}{error}", if index > 0 { "\n" } else { "" })?;
@@ -75,4 +84,4 @@ impl Display for TextErrors {
     }
 }
 
-impl Error for TextErrors {}
+impl<E: Debug + Display> Error for Errors<E> {}

@@ -4,7 +4,7 @@ use std::fmt::Write;
 
 use super::errors::{TextError, TextErrors};
 use super::names::{name_of, ACTIONS};
-use super::parse::each_line;
+use super::parse::{add, each_line};
 use super::record::fill;
 use super::show::leg_words;
 use super::words::Words;
@@ -42,7 +42,7 @@ impl Reading {
                 words.skip();
             }
             Some(_) if !self.opened => return self.before_section(&words),
-            Some(_) => self.record(&mut words)?,
+            Some(_) => add(&mut self.fills, MOST_FILLS, SECTION, &mut words, fill)?,
         }
         words.end()
     }
@@ -54,17 +54,6 @@ impl Reading {
         }
         self.told_of_start = true;
         Err(words.error("the section `fills`"))
-    }
-
-    /// The first fill past the limit is an error, and those behind it are none of their own.
-    fn record(&mut self, words: &mut Words) -> Result<(), TextError> {
-        let too_many = words.error(&format!("no more than {MOST_FILLS} fills"));
-        self.fills.push(fill(words)?);
-        if self.fills.len() == MOST_FILLS + 1 {
-            Err(too_many)
-        } else {
-            Ok(())
-        }
     }
 }
 

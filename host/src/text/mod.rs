@@ -1,4 +1,4 @@
-//! A sheet, and a day's fills, as readable text. [`parse`] reads what [`show`] prints, to the same sheet.
+//! A sheet, a day's fills and a table of roots as readable text. [`parse`] reads what [`show`] prints, to the same sheet.
 
 mod errors;
 mod escape;
@@ -7,17 +7,21 @@ mod line;
 mod names;
 mod parse;
 mod record;
+mod roots;
 mod show;
 mod words;
 
-pub use errors::{TextError, TextErrors};
+pub use errors::{Errors, TextError, TextErrors};
 pub use escape::escaped;
+pub(crate) use escape::{escaped_bytes, line_of_bytes};
 pub use fills::{parse_fills, show_fills};
 pub(crate) use line::{
     date_text, fill_text, leg_text, market_name, placed_text, raw_text, series_text, style_name,
 };
 pub(crate) use parse::is_section;
 pub use parse::parse;
+pub(crate) use roots::terms_text;
+pub use roots::{parse_roots, show_roots};
 pub use show::{show, show_holdings};
 
 /// The text format, as the help of `usm_sheet` prints it.
@@ -55,4 +59,30 @@ A day's fills are one section, with one fill a line, in the order in which they 
 
 A fill reads `open` or `close`, then a leg as in the holdings: it adds to the lot of its own
 side, or takes from it.
+";
+
+/// The text format of a table of roots.
+pub const ROOTS_FORMAT: &str = "\
+A table of roots tells what the roots of option symbols stand for, one root a line:
+
+  SPX   european listed unit 100 cash underlying 7
+  AAPL  american listed unit 100 physical underlying 8
+  AAPL7 american listed unit 10 underlying 8
+
+A root is 1 to 6 of A-Z and 0-9, a letter first. Behind it come style, market, `unit` and the
+unit size, settlement unless it is not stated, and `underlying` and its number. There are 1 to
+256 roots; no two have the same name, and no two the same terms.
+";
+
+/// The format of a list of option symbols, which is that of its bytes.
+pub const LIST_FORMAT: &str = "\
+A list of option symbols has a line for each record of the holdings, and nothing else:
+
+AAPL  110521C00060000 L 10
+AAPL  110521C00065000 S 10
+
+A line has the root in columns 1 to 6, with blanks behind it; the expiry YYMMDD, of 2000 to
+2099; C or P; the strike in mills (1/1000 dollar) as 8 digits; a blank; L or S; a blank; and
+the contracts, 1 to 100000. Every line, the last one too, ends in a newline, and none in a
+carriage return. There are no comments, and at most 256 lines.
 ";

@@ -130,7 +130,7 @@ impl Reading {
 
 /// Reads a record of a table. The first one past the table's limit is an error, and those behind it are
 /// none of their own.
-fn add<T>(
+pub(super) fn add<T>(
     table: &mut Vec<T>,
     most: usize,
     what: &str,

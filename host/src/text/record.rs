@@ -42,13 +42,11 @@ fn leg(group: u16, or_else: &str, may_be_paid: bool, words: &mut Words) -> Resul
     let strike =
         words.value("a strike in dollars from 0.001 to 99999.999 with up to three decimals", mills)?;
     let expiry = words.value("an expiry YYYY-MM-DD, a real date from 2000-01-01 to 2099-12-31", date)?;
-    words.word("unit")?;
-    let unit_size = words.number("a unit size", 1..=GREATEST_UNIT_SIZE)?;
-    words.word("underlying")?;
-    let underlying = words.number("an underlying", 1..=u32::MAX)?;
+    let unit_size = unit_size(words)?;
+    let underlying = underlying(words)?;
     let style = words.choose(STYLES, "")?;
     let market = words.choose(MARKETS, "")?;
-    let settlement = words.optional(SETTLEMENTS).unwrap_or(Settlement::NotStated);
+    let settlement = settlement(words);
     let paid = may_be_paid && words.flag("paid");
     Ok(Leg {
         group,
@@ -64,6 +62,20 @@ fn leg(group: u16, or_else: &str, may_be_paid: bool, words: &mut Words) -> Resul
         settlement,
         paid,
     })
+}
+
+pub fn unit_size(words: &mut Words) -> Result<u16, TextError> {
+    words.word("unit")?;
+    words.number("a unit size", 1..=GREATEST_UNIT_SIZE)
+}
+
+pub fn underlying(words: &mut Words) -> Result<u32, TextError> {
+    words.word("underlying")?;
+    words.number("an underlying", 1..=u32::MAX)
+}
+
+pub fn settlement(words: &mut Words) -> Settlement {
+    words.optional(SETTLEMENTS).unwrap_or(Settlement::NotStated)
 }
 
 /// Dollars with up to three decimals, as mills.

@@ -47,13 +47,9 @@ fn line(text: &mut String, words: String) {
 
 /// The words of a leg, padded so that those of one table stand in columns.
 pub fn leg_words(leg: &Leg) -> String {
-    let settlement = match leg.settlement {
-        Settlement::NotStated => String::new(),
-        settlement => format!(" {}", name_of(settlement, SETTLEMENTS)),
-    };
     let paid = if leg.paid { " paid" } else { "" };
     format!(
-        "{:<5} {} {:<4} {} {} unit {} underlying {} {} {}{settlement}{paid}",
+        "{:<5} {} {:<4} {} {} unit {} underlying {} {} {}{}{paid}",
         name_of(leg.side, SIDES),
         leg.contracts,
         name_of(leg.option_type, TYPES),
@@ -63,5 +59,14 @@ pub fn leg_words(leg: &Leg) -> String {
         leg.underlying,
         name_of(leg.style, STYLES),
         name_of(leg.market, MARKETS),
+        settlement_words(leg.settlement),
     )
+}
+
+/// The settlement behind a blank; one that is not stated has no word.
+pub fn settlement_words(settlement: Settlement) -> String {
+    match settlement {
+        Settlement::NotStated => String::new(),
+        settlement => format!(" {}", name_of(settlement, SETTLEMENTS)),
+    }
 }

@@ -13,7 +13,7 @@ pub struct Words<'a> {
     end: usize,
     words: Vec<(usize, &'a str)>,
     at: usize,
-    /// What might have stood where the line should end.
+    /// What might have stood before the next word, or before the end.
     might_be: String,
 }
 
@@ -51,9 +51,14 @@ impl<'a> Words<'a> {
         }
     }
 
+    /// What was expected here, behind what might have stood before it.
+    fn missing(&self, expected: &str) -> TextError {
+        self.error(&format!("{}{expected}", self.might_be))
+    }
+
     /// The next word, read by `read`.
     pub fn value<T>(&mut self, expected: &str, read: impl Fn(&str) -> Option<T>) -> Result<T, TextError> {
-        let value = self.peek().and_then(read).ok_or_else(|| self.error(expected))?;
+        let value = self.peek().and_then(read).ok_or_else(|| self.missing(expected))?;
         self.skip();
         Ok(value)
     }
@@ -104,7 +109,7 @@ impl<'a> Words<'a> {
 
     pub fn end(&self) -> Result<(), TextError> {
         match self.peek() {
-            Some(_) => Err(self.error(&format!("{}the end of the line", self.might_be))),
+            Some(_) => Err(self.missing("the end of the line")),
             None => Ok(()),
         }
     }

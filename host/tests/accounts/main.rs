@@ -12,6 +12,7 @@ mod forms;
 mod limits;
 mod look_right;
 mod minis;
+mod symbols;
 mod unplaced;
 
 use usm::block::LONGEST_FILE;

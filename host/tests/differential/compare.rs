@@ -46,6 +46,25 @@ where
     assert!(model.stayed_past(output), "{case}: {call}: both wrote past their output of {output}");
 }
 
+/// A call that fills one lent buffer: `unit` entries for each of what it counts.
+fn same_output<T>(
+    case: &dyn Display,
+    call: &str,
+    (room, unit): (usize, usize),
+    library: impl FnOnce(&mut [T], &mut Answer),
+    model: impl FnOnce(&mut [T]) -> Result<usize, Refusal>,
+) -> u64
+where
+    T: Copy + From<u8> + PartialEq + Debug,
+{
+    let mut out = Lent::of_length(room);
+    let mut expected_out = out.clone();
+    let answer = answer_of(|answer| library(out.slice(), answer));
+    let expected = model(expected_out.slice());
+    same_buffer(case, call, &out, &expected_out, expected.unwrap_or(0) * unit);
+    same(case, call, answer, numbers(&expected, |count| [count as u64, 0, 0]))
+}
+
 pub fn check_table(case: &dyn Display, kind: u64, table: &[u8]) -> u64 {
     let answer = answer_of(|answer| ffi::check_table(kind, table, answer));
     let expected = match Table::ALL.iter().find(|which| which.number() == kind) {
@@ -85,12 +104,8 @@ pub fn mark_paid(case: &dyn Display, placement: &[u8]) -> u64 {
 
 pub fn margins(case: &dyn Display, placement: &[u8], n: u64, room: usize) -> u64 {
     let call = format!("usm_margins {n}, room {room}");
-    let mut out = Lent::of_length(room);
-    let mut expected_out = out.clone();
-    let answer = answer_of(|answer| ffi::margins(placement, n, out.slice(), answer));
-    let expected = model::margins(placement, n, expected_out.slice());
-    same_buffer(case, &call, &out, &expected_out, expected.unwrap_or(0));
-    same(case, &call, answer, numbers(&expected, |groups| [groups as u64, 0, 0]))
+    let library = |out: &mut [i64], answer: &mut Answer| ffi::margins(placement, n, out, answer);
+    same_output(case, &call, (room, 1), library, |out| model::margins(placement, n, out))
 }
 
 pub fn worksheet(case: &dyn Display, placement: &[u8], g: u64, strikes_room: usize, nets_room: usize) -> u64 {
@@ -116,39 +131,37 @@ pub fn check_sheet(case: &dyn Display, tables: &Tables) -> u64 {
 pub fn write_file(case: &dyn Display, tables: &Tables, [form, account]: [u64; 2], room: usize) -> u64 {
     let Tables { holdings, placement, claims } = tables;
     let call = format!("usm_write_file, form {form}, account {account}, room {room}");
-    let mut out = Lent::of_length(room);
-    let mut expected_out = out.clone();
-    let answer = answer_of(|answer| {
-        ffi::write_file(holdings, placement, claims, [form, account], out.slice(), answer)
-    });
-    let expected = match Form::of_number(form) {
-        Some(form) => {
-            model::write_file(holdings, placement, claims, Origin { form, account }, expected_out.slice())
-        }
-        None => Err(Refusal::new(1, 0, 0)),
+    let library = |out: &mut [u8], answer: &mut Answer| {
+        ffi::write_file(holdings, placement, claims, [form, account], out, answer)
     };
-    same_buffer(case, &call, &out, &expected_out, expected.unwrap_or(0));
-    same(case, &call, answer, numbers(&expected, |length| [length as u64, 0, 0]))
+    same_output(case, &call, (room, 1), library, |out| match Form::of_number(form) {
+        Some(form) => model::write_file(holdings, placement, claims, Origin { form, account }, out),
+        None => Err(Refusal::new(1, 0, 0)),
+    })
 }
 
 pub fn move_to_new(case: &dyn Display, file: &[u8], account: u64, room: usize) -> u64 {
     let call = format!("usm_move_to_new, account {account}, room {room}");
-    let mut out = Lent::of_length(room);
-    let mut expected_out = out.clone();
-    let answer = answer_of(|answer| ffi::move_to_new(file, account, out.slice(), answer));
-    let expected = model::move_to_new(file, account, expected_out.slice());
-    same_buffer(case, &call, &out, &expected_out, expected.unwrap_or(0));
-    same(case, &call, answer, numbers(&expected, |length| [length as u64, 0, 0]))
+    let library = |out: &mut [u8], answer: &mut Answer| ffi::move_to_new(file, account, out, answer);
+    same_output(case, &call, (room, 1), library, |out| model::move_to_new(file, account, out))
 }
 
 pub fn move_to_old(case: &dyn Display, file: &[u8], room: usize) -> u64 {
     let call = format!("usm_move_to_old, room {room}");
-    let mut out = Lent::of_length(room);
-    let mut expected_out = out.clone();
-    let answer = answer_of(|answer| ffi::move_to_old(file, out.slice(), answer));
-    let expected = model::move_to_old(file, expected_out.slice());
-    same_buffer(case, &call, &out, &expected_out, expected.unwrap_or(0));
-    same(case, &call, answer, numbers(&expected, |length| [length as u64, 0, 0]))
+    let library = |out: &mut [u8], answer: &mut Answer| ffi::move_to_old(file, out, answer);
+    same_output(case, &call, (room, 1), library, |out| model::move_to_old(file, out))
+}
+
+pub fn import(case: &dyn Display, roots: &[u8], list: &[u8], room: usize) -> u64 {
+    let call = format!("usm_import, room {room}");
+    let library = |out: &mut [u8], answer: &mut Answer| ffi::import(roots, list, out, answer);
+    same_output(case, &call, (room, RECORD_BYTES), library, |out| model::import(roots, list, out))
+}
+
+pub fn export(case: &dyn Display, roots: &[u8], holdings: &[u8], room: usize) -> u64 {
+    let call = format!("usm_export, room {room}");
+    let library = |out: &mut [u8], answer: &mut Answer| ffi::export(roots, holdings, out, answer);
+    same_output(case, &call, (room, 1), library, |out| model::export(roots, holdings, out))
 }
 
 pub fn check_file(case: &dyn Display, file: &[u8]) -> u64 {

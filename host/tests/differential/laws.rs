@@ -6,8 +6,8 @@ use std::fmt::Display;
 
 use usm::fields::records;
 use usm::{
-    check_file, check_table, move_to_new, move_to_old, play_fills, Claim, Form, Leg, OptionType, Origin,
-    PlayCounts, Sheet, Side, Style, Table, Tables, RECORD_BYTES,
+    check_file, check_table, export, import, move_to_new, move_to_old, play_fills, Claim, Form, Leg,
+    OptionType, Origin, PlayCounts, Sheet, Side, Style, Table, Tables, LONGEST_LIST, RECORD_BYTES,
 };
 
 use crate::files;
@@ -121,6 +121,28 @@ pub fn the_pass_takes_old_sheets(case: &dyn Display, random: &mut Random, sheet:
     assert_eq!(old.check(), accepted, "{case}: the verdict after the pass");
     let marked = old.clone();
     assert_eq!((old.mark_paid(), &old), (Ok(0), &marked), "{case}: the second pass");
+}
+
+/// A list that is taken makes good holdings without marks, and they are written as the same list.
+pub fn lists_go_round(case: &dyn Display, roots: &[u8], list: &[u8]) {
+    let (mut holdings, mut back) = (vec![0; Table::Holdings.most_bytes()], vec![0; LONGEST_LIST]);
+    if let Ok(records) = import(roots, list, &mut holdings) {
+        holdings.truncate(records * RECORD_BYTES);
+        assert_eq!(check_table(Table::Holdings, &holdings), Ok(records), "{case}");
+        assert!(holdings.chunks_exact(RECORD_BYTES).all(|record| record[25] == 0), "{case}: no mark");
+        assert_eq!(export(roots, &holdings, &mut back), Ok(list.len()), "{case}: the way back");
+        assert!(&back[..list.len()] == list, "{case}: a list taken and written is another");
+    }
+}
+
+/// Holdings that are written as a list are what the list makes, whatever the room past it.
+pub fn holdings_go_round(case: &dyn Display, roots: &[u8], holdings: &[u8]) {
+    let (mut list, mut back) = (vec![0; LONGEST_LIST], vec![0; holdings.len()]);
+    if let Ok(length) = export(roots, holdings, &mut list) {
+        let records = holdings.len() / RECORD_BYTES;
+        assert_eq!(import(roots, &list[..length], &mut back), Ok(records), "{case}: the way back");
+        assert!(back == holdings, "{case}: holdings written and taken are others");
+    }
 }
 
 /// The cash that a group requires covers it at each of its strikes, and nothing less does.

@@ -19,6 +19,7 @@ mod random;
 mod sheets;
 mod shortness;
 mod spreads;
+mod symbols;
 mod tries;
 mod values;
 mod worlds;
@@ -33,7 +34,7 @@ const ALL_BUT_DAMAGE: [usize; 19] = [0, 1, 3, 4, 5, 6, 7, 8, 9, 10, 11, 12, 13, 
 
 #[test]
 fn valid_sheets() {
-    run("valid_sheets", 14, &[0, 3, 6, 17, 20], |case, random, tally| {
+    run("valid_sheets", 12, &[0, 3, 6, 17, 20], |case, random, tally| {
         let sheet = sheets::valid(random);
         let tables = sheet.tables();
         assert_eq!(compare::check_sheet(case, &tables), 0, "{case}: a sheet that should be accepted");
@@ -47,7 +48,7 @@ fn valid_sheets() {
 
 #[test]
 fn one_fault() {
-    run("one_fault", 16, &ALL_BUT_DAMAGE, |case, random, tally| {
+    run("one_fault", 14, &ALL_BUT_DAMAGE, |case, random, tally| {
         let mut tables = sheets::valid(random).tables();
         faults::one(random, &mut tables);
         try_tables(case, random, &tables, tally);
@@ -56,7 +57,7 @@ fn one_fault() {
 
 #[test]
 fn two_or_more_faults() {
-    run("two_or_more_faults", 13, &ALL_BUT_DAMAGE, |case, random, tally| {
+    run("two_or_more_faults", 11, &ALL_BUT_DAMAGE, |case, random, tally| {
         let mut tables = sheets::valid(random).tables();
         for _ in 0..2 + random.below(2) {
             faults::one(random, &mut tables);
@@ -75,7 +76,7 @@ fn garbage_tables() {
 
 #[test]
 fn tiny_worlds() {
-    run("tiny_worlds", 9, &[0, 5, 6, 7, 8, 9, 10, 11, 12, 13, 14, 15, 16, 17], |case, random, tally| {
+    run("tiny_worlds", 8, &[0, 5, 6, 7, 8, 9, 10, 11, 12, 13, 14, 15, 16, 17], |case, random, tally| {
         let tables = worlds::tiny_world(random);
         try_tables(case, random, &tables, tally);
     });
@@ -84,7 +85,7 @@ fn tiny_worlds() {
 /// European long boxes and what is nearly one: only the margin tells them apart.
 #[test]
 fn near_boxes() {
-    run("near_boxes", 7, &[0, 8, 10, 11, 12, 13, 16], |case, random, tally| {
+    run("near_boxes", 6, &[0, 8, 10, 11, 12, 13, 16], |case, random, tally| {
         let sheet = boxes::sheet(random);
         if sheet.check().is_ok() {
             laws::margins_cover_every_price(case, random, &sheet);
@@ -97,7 +98,7 @@ fn near_boxes() {
 /// Groups that are fit for a cash account, or nearly.
 #[test]
 fn cash_groups() {
-    run("cash_groups", 6, &[0, 10, 11, 12, 13, 21], |case, random, tally| {
+    run("cash_groups", 5, &[0, 10, 11, 12, 13, 21], |case, random, tally| {
         let sheet = cash::sheet(random);
         for claim in &sheet.claims {
             let group = u64::from(claim.group);
@@ -111,7 +112,7 @@ fn cash_groups() {
 /// Days of fills. What is counted are the answers of the call and the numbers that it lists.
 #[test]
 fn days_of_fills() {
-    run("days_of_fills", 10, &[0, 1, 4, 17, 18, 19], |case, random, tally| {
+    run("days_of_fills", 9, &[0, 1, 4, 17, 18, 19], |case, random, tally| {
         let day = fills::day(random);
         let answer = compare::play_fills(case, &day, |listed| tally.count(listed));
         tally.count(answer);
@@ -122,10 +123,41 @@ fn days_of_fills() {
     });
 }
 
+/// Lists of option symbols, good ones and damaged ones, made into holdings.
+#[test]
+fn lists_in() {
+    run("lists_in", 7, &[0, 1, 4, 17, 22, 23, 24], |case, random, tally| {
+        let mut world = symbols::world(random);
+        let needed = world.holdings.len();
+        if random.one_in(2) {
+            symbols::damage::some(random, &mut world);
+        }
+        tally.count(compare::import(case, &world.roots, &world.list, random.room(needed)));
+        laws::lists_go_round(case, &world.roots, &world.list);
+        if case.index % 16 == 0 {
+            wrapper::lists_alike(case, &world);
+        }
+    });
+}
+
+/// Holdings, good ones and damaged ones, written as lists.
+#[test]
+fn lists_out() {
+    run("lists_out", 6, &[0, 1, 4, 17, 23, 24], |case, random, tally| {
+        let mut world = symbols::world(random);
+        let needed = world.list.len();
+        if random.one_in(2) {
+            symbols::damage::some(random, &mut world);
+        }
+        tally.count(compare::export(case, &world.roots, &world.holdings, random.room(needed)));
+        laws::holdings_go_round(case, &world.roots, &world.holdings);
+    });
+}
+
 /// Blocks of two accounts or of two forms in one file.
 #[test]
 fn joined_files() {
-    run("joined_files", 7, &[0, 3, 17, 20], |case, random, tally| {
+    run("joined_files", 6, &[0, 3, 17, 20], |case, random, tally| {
         let tables = sheets::valid(random).tables();
         let mut file = files::joined(random, &tables);
         if random.one_in(4) {
@@ -138,7 +170,7 @@ fn joined_files() {
 #[test]
 fn damaged_files() {
     let wanted = [0, 1, 2, 3, 4, 5, 6, 10, 11, 12, 14, 17, 20];
-    run("damaged_files", 14, &wanted, |case, random, tally| {
+    run("damaged_files", 12, &wanted, |case, random, tally| {
         let mut tables = sheets::valid(random).tables();
         if random.one_in(4) {
             faults::one(random, &mut tables);

@@ -7,6 +7,7 @@ use usm::both::{Calls, LIBRARY, MODEL};
 use usm::{Accepted, Origin, PlayCounts, RecordCounts, Refusal, Table, Tables, MOST_CLAIMS};
 
 use crate::fills::Day;
+use crate::symbols::World;
 
 /// The answers of every call, each with its lent buffers.
 #[derive(Debug, PartialEq)]
@@ -64,6 +65,17 @@ pub fn plays_alike(case: &dyn Display, day: &Day) {
         (counts, result, indices, numbers)
     };
     assert!(played(LIBRARY) == played(MODEL), "{case}: wrapper and model differ in a day of fills");
+}
+
+/// Both calls on a world, in buffers that its list and its holdings fill.
+pub fn lists_alike(case: &dyn Display, world: &World) {
+    let both = |calls: Calls| {
+        let (mut holdings, mut list) = (vec![1; world.holdings.len()], vec![1; world.list.len()]);
+        let imported = (calls.import)(&world.roots, &world.list, &mut holdings);
+        let exported = (calls.export)(&world.roots, &world.holdings, &mut list);
+        (imported, holdings, exported, list)
+    };
+    assert!(both(LIBRARY) == both(MODEL), "{case}: wrapper and model differ in a list");
 }
 
 pub fn answers_alike(case: &dyn Display, tables: &Tables, file: &[u8], g: u64) {

@@ -7,6 +7,7 @@ mod fields;
 mod files;
 mod fills;
 mod sheets;
+mod symbols;
 
 use std::collections::BTreeSet;
 use std::fs;
@@ -24,11 +25,11 @@ fn entry(name: &str, refusal: &Refusal, sentence: &str) -> String {
 
 /// The sentences of refusals by themselves, at places that count from 0 and groups that count from 1.
 fn short() -> String {
-    let tables: [&[u64]; 21] = [
+    let tables: [&[u64]; 24] = [
         &[0],
         &[0],
         &[0],
-        &[1, 2, 3, 4],
+        &[1, 2, 3, 4, 6],
         &[3, 2],
         &[2],
         &[2],
@@ -41,13 +42,16 @@ fn short() -> String {
         &[1, 2],
         &[2],
         &[3],
-        &[0, 1, 2, 3, 4],
+        &[0, 1, 2, 3, 4, 6],
         &[4],
         &[1, 4],
         &[0],
         &[2],
+        &[6],
+        &[5],
+        &[6, 1],
     ];
-    let refusals = (1..=21).zip(tables).flat_map(|(number, tables)| {
+    let refusals = (1..=24).zip(tables).flat_map(|(number, tables)| {
         tables.iter().map(move |table| Refusal::new(number, *table, if number == 1 { 0 } else { 2 }))
     });
     refusals.map(|refusal| entry("by itself", &refusal, &refusal.to_string())).collect()
@@ -87,7 +91,8 @@ fn cases() -> Vec<Case> {
 #[test]
 fn every_sentence_is_that_of_the_table() {
     let of_calls = [of_groups(), of_cash()].concat();
-    let found = format!("{}\n{}\n{}\n{}", short(), of_files(&cases()), of_calls, fills::sentences());
+    let parts = [short(), of_files(&cases()), of_calls, fills::sentences(), symbols::sentences()];
+    let found = parts.join("\n");
     let table = Path::new(env!("CARGO_MANIFEST_DIR")).join("tests/sentences/sentences.txt");
     if std::env::var_os("USM_WRITE_SENTENCES").is_some() {
         fs::write(&table, &found).expect("the table is written");
@@ -103,8 +108,15 @@ fn every_sentence_is_that_of_the_table() {
 fn every_reason_that_a_file_can_have_is_in_the_table() {
     let numbers: BTreeSet<u64> =
         cases().iter().map(|(name, file)| check_file(file).expect_err(name).number).collect();
-    let of_other_calls =
-        [Reason::NoRoom, Reason::MoreClosedThanHeld, Reason::TooMuchHeld, Reason::NotFitForCash];
+    let of_other_calls = [
+        Reason::NoRoom,
+        Reason::MoreClosedThanHeld,
+        Reason::TooMuchHeld,
+        Reason::NotFitForCash,
+        Reason::LineMalformed,
+        Reason::RootsIllFormed,
+        Reason::NotInRoots,
+    ];
     let reasons = Reason::ALL.into_iter().filter(|reason| !of_other_calls.contains(reason));
     assert_eq!(numbers, reasons.map(Reason::number).collect());
 }
@@ -113,8 +125,8 @@ fn every_reason_that_a_file_can_have_is_in_the_table() {
 fn a_refusal_of_something_else_has_its_own_sentence() {
     // Nothing of what these name is in the file, or they are none of a file's refusals.
     let file = sheets::accepted().to_file().expect("a file");
-    for number in 0..=22 {
-        for table in 0..=5 {
+    for number in 0..=25 {
+        for table in 0..=7 {
             for place in [0, 1, 39, u64::MAX] {
                 let refusal = Refusal::new(number, table, place);
                 assert!(!sentences::of_file(&file, &refusal).is_empty());

@@ -14,6 +14,7 @@ mod moves;
 mod paid;
 mod play;
 mod script;
+mod symbols;
 
 use std::ffi::OsStr;
 use std::io::Write;
@@ -68,6 +69,11 @@ fn names_in(folder: &Path) -> Vec<String> {
     names
 }
 
+/// What a page or the help sets apart by an indent, to be copied.
+fn example(text: &str, indent: &str) -> String {
+    text.lines().filter_map(|line| line.strip_prefix(indent)).map(|line| format!("{line}\n")).collect()
+}
+
 #[test]
 fn commands_not_understood_are_told_of_the_help() {
     let folder = folder("tool-usage");
@@ -79,6 +85,8 @@ fn commands_not_understood_are_told_of_the_help() {
         &["check", "a", "--force"],
         &["show", "a", "--json"],
         &["worksheet", "a"],
+        &["import", "a", "b"],
+        &["export", "a", "b", "c", "--json"],
         &["frob", "a"],
     ] {
         let message = "sheet: the command was not understood; `sheet help` shows the commands\n";
@@ -103,11 +111,6 @@ fn help_and_version_are_printed() {
 #[test]
 fn the_sheet_in_the_help_is_one_that_make_reads() {
     let folder = folder("tool-help-sheet");
-    let example: String = usm::text::FORMAT
-        .lines()
-        .filter(|line| line.starts_with("  "))
-        .map(|line| format!("{line}\n"))
-        .collect();
-    let made = run(&folder, &["make", "-", "-"], example.as_bytes());
+    let made = run(&folder, &["make", "-", "-"], example(usm::text::FORMAT, "  ").as_bytes());
     assert_eq!(usm::file_line(&made.stdout), "ACCEPT 1 0\n");
 }

@@ -2,7 +2,7 @@
 
 use std::fs;
 
-use crate::{folder, names_in, run, told, VERTICAL};
+use crate::{example, folder, names_in, run, told, VERTICAL};
 
 const LEG: &str = "call 60.000 2011-05-21 unit 100 underlying 7 american listed";
 
@@ -78,10 +78,6 @@ fn what_cannot_be_played_writes_nothing() {
 
 #[test]
 fn the_fills_in_the_help_are_some_that_play_reads() {
-    let example: String = usm::text::FILLS_FORMAT
-        .lines()
-        .filter(|line| line.starts_with("  "))
-        .map(|line| format!("{line}\n"))
-        .collect();
-    assert_eq!(usm::text::parse_fills(&example).map(|fills| fills.len()), Ok(2));
+    let fills = usm::text::parse_fills(&example(usm::text::FILLS_FORMAT, "  "));
+    assert_eq!(fills.map(|fills| fills.len()), Ok(2));
 }

@@ -10,6 +10,7 @@
 mod crafted;
 mod fills;
 mod inputs;
+mod lists;
 mod rows;
 mod times;
 
@@ -26,7 +27,8 @@ fn main() {
     );
     let words: Vec<String> = std::env::args().skip(1).collect();
     let wanted = |row: &Row| words.is_empty() || words.iter().any(|word| row.name.contains(word.as_str()));
-    let slower: Vec<&str> = rows::rows().into_iter().filter(wanted).filter_map(|row| timed(row).1).collect();
+    let slower: Vec<&str> =
+        rows::rows().into_iter().chain(lists::rows()).filter(wanted).filter_map(|row| timed(row).1).collect();
     let (nightly, behind) = timed(rows::nightly());
     // A floor has no other side to be ahead of.
     timed(rows::floor());

@@ -18,14 +18,14 @@ pub struct Row {
 }
 
 /// A row whose two sides answer alike; that is seen to before anything is timed.
-fn row<Timed: FnMut() -> u64 + 'static>(name: &'static str, timed: impl Fn(Calls) -> Timed) -> Row {
+pub fn row<Timed: FnMut() -> u64 + 'static>(name: &'static str, timed: impl Fn(Calls) -> Timed) -> Row {
     let (mut model, mut library) = (timed(MODEL), timed(LIBRARY));
     assert_eq!(model(), library(), "{name}: model and library differ");
     Row { name, model: Box::new(model), library: Box::new(library) }
 }
 
 /// Folds an answer into a number, so that the two can be held against each other.
-fn folded<T>(answer: Result<T, Refusal>, of_success: impl Fn(T) -> u64) -> u64 {
+pub fn folded<T>(answer: Result<T, Refusal>, of_success: impl Fn(T) -> u64) -> u64 {
     match answer {
         Ok(success) => of_success(success),
         Err(refusal) => refusal.number << 56 | refusal.table << 48 | refusal.place,

@@ -1,5 +1,5 @@
 //! Writes the samples: small sheet files named after what they show, each with the text it
-//! is made from where text can make it; and a day's fills, as texts.
+//! is made from where text can make it; a day's fills, as texts; and lists of option symbols.
 
 #![forbid(unsafe_code)]
 
@@ -7,6 +7,7 @@ mod accepted;
 mod changes;
 mod fills;
 mod list;
+mod lists;
 mod refused;
 
 use std::ffi::OsString;
@@ -46,15 +47,13 @@ fn write_all(folder: &Path, force: bool) -> Result<ExitCode, String> {
         }
         write(&folder.join(sample.name).with_extension("usm"), &file, force)?;
     }
-    write_fills(&folder.join("fills"), force)?;
+    write_texts(&folder.join("fills"), &fills::texts()?, force)?;
+    write_texts(&folder.join("lists"), &lists::texts()?, force)?;
     Ok(ExitCode::SUCCESS)
 }
 
-/// A day's fills, in a folder of their own.
-fn write_fills(folder: &Path, force: bool) -> Result<(), String> {
+/// Texts that belong together, in a folder of their own.
+fn write_texts(folder: &Path, texts: &[(&str, String)], force: bool) -> Result<(), String> {
     fs::create_dir_all(folder).map_err(|error| format!("{}: {error}", shown(folder)))?;
-    for (name, text) in fills::texts()? {
-        write(&folder.join(name), text.as_bytes(), force)?;
-    }
-    Ok(())
+    texts.iter().try_for_each(|(name, text)| write(&folder.join(name), text.as_bytes(), force))
 }

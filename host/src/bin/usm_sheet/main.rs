@@ -7,6 +7,7 @@ mod arguments;
 mod check;
 mod groups;
 mod input;
+mod inputs;
 mod json;
 mod make;
 mod moves;
@@ -14,6 +15,7 @@ mod output;
 mod paid;
 mod play;
 mod plot;
+mod symbols;
 
 use std::ffi::OsString;
 use std::process::ExitCode;
@@ -37,6 +39,11 @@ usage:
                                   that marks every unplaced long as paid [--force]
   sheet play HOLDINGS FILLS OUT   play a text of fills over a text of holdings, and write what
                                   is held then as the text OUT [--force]
+  sheet import ROOTS LIST OUT     make holdings of a list of option symbols, by a text of roots,
+                                  and write them as the text OUT, or, where OUT ends in .usm, as
+                                  a sheet file [--force]
+  sheet export ROOTS FILE OUT     write the holdings of a sheet file, or of a sheet's text, as a
+                                  list of option symbols [--force]
   sheet help                      tell about the text formats too (-h, --help)
   sheet --version                 print the version
 
@@ -44,9 +51,9 @@ usage:
 options. An OUT that is there already is left alone unless --force is given. `check` prints
 the line of each file on standard output, behind its name if there are several, and
 sentences for people on standard error; with --json it prints one object a file instead. The
-exit status is 0 if all is well; 1 if `check` refuses a file, `play` a fill, or a group of
-`margins` or `worksheet` is no spread, or one of `cash` not fit for it; 2 if something could
-not be done.
+exit status is 0 if all is well; 1 if `check` refuses a file, `play` a fill, `import` a list
+or `export` holdings, or a group of `margins` or `worksheet` is no spread, or one of `cash` not
+fit for it; 2 if something could not be done.
 ";
 
 fn main() -> ExitCode {
@@ -74,13 +81,16 @@ fn run(words: Vec<OsString>) -> Result<ExitCode, String> {
         ("to-old", [file, out], force, false) => moves::to_old(file, out, force),
         ("mark-paid", [file, out], force, false) => paid::mark_paid(file, out, force),
         ("play", [holdings, fills, out], force, false) => play::play(holdings, fills, out, force),
+        ("import", [roots, list, out], force, false) => symbols::import(roots, list, out, force),
+        ("export", [roots, file, out], force, false) => symbols::export(roots, file, out, force),
         ("help", [], false, false) => help(),
         _ => Err(not_understood(String::from("the command was not understood"))),
     }
 }
 
 fn help() -> Result<ExitCode, String> {
-    print(&format!("{USAGE}\n{}\n{}", text::FORMAT, text::FILLS_FORMAT))
+    let formats = [text::FORMAT, text::FILLS_FORMAT, text::ROOTS_FORMAT, text::LIST_FORMAT];
+    print(&format!("{USAGE}\n{}", formats.join("\n")))
 }
 
 fn not_understood(what: String) -> String {

@@ -3,11 +3,13 @@
 use std::ffi::OsStr;
 use std::process::ExitCode;
 
-use usm::numbers::grouped;
+use usm::numbers::{count, grouped};
 use usm::program::{self, shown};
 use usm::{play as play_over, sentences, text};
 
-use crate::make::{read_text, same_file, told, write};
+use crate::input::{read_text, told};
+use crate::inputs::{tell_left_out, two_inputs};
+use crate::make::write;
 
 /// Writes the holdings that come out as text; a refused fill has a sentence each.
 pub fn play(
@@ -16,14 +18,7 @@ pub fn play(
     out_name: &OsStr,
     force: bool,
 ) -> Result<ExitCode, String> {
-    if holdings_name == "-" && fills_name == "-" {
-        return Err(String::from("holdings and fills cannot both be standard input"));
-    }
-    for name in [holdings_name, fills_name] {
-        if same_file(name, out_name) {
-            return Err(format!("{}: is played; what comes out needs another name", shown(name)));
-        }
-    }
+    two_inputs([("holdings", holdings_name), ("fills", fills_name)], "played", out_name)?;
     let yesterday = text::parse(&read_text(holdings_name)?).map_err(|errors| told(holdings_name, &errors))?;
     let fills = text::parse_fills(&read_text(fills_name)?).map_err(|errors| told(fills_name, &errors))?;
     let played = play_over(&yesterday.holdings, &fills).map_err(|refusal| {
@@ -32,26 +27,17 @@ pub fn play(
     })?;
     let today = text::show_holdings(&played.holdings);
     write(out_name, today.as_bytes(), force)?;
-    if !yesterday.placement.is_empty() || !yesterday.claims.is_empty() {
-        program::tell(&format!("{}: its placement and its claims are left out", shown(holdings_name)));
-    }
+    tell_left_out(holdings_name, &yesterday);
     for refusal in &played.refused {
         let sentence = sentences::of_fills(&yesterday.holdings, &fills, refusal);
         program::tell(&format!("{}: refusal {}: {sentence}", shown(fills_name), refusal.number));
     }
-    let (count, refused) = (fills.len(), played.refused.len());
+    let refused = played.refused.len();
     program::tell(&format!(
         "{} played, {} refused; the holdings have {}",
-        grouped(count - refused),
+        grouped(fills.len() - refused),
         grouped(refused),
-        records(played.holdings.len())
+        count(played.holdings.len() as u64, "record")
     ));
     Ok(ExitCode::from(u8::from(refused > 0)))
-}
-
-fn records(count: usize) -> String {
-    match count {
-        1 => String::from("1 record"),
-        count => format!("{} records", grouped(count)),
-    }
 }

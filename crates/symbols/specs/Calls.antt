@@ -1,0 +1,119 @@
+-- What import and export answer, and what they leave in the slice that they are lent.
+use Prim.Native.Nat.{ℕ, _+_, _*_}
+use mathlib.Core.Bool.{Bool, not, _&&_}
+use mathlib.Core.List.{List, [], _∷_, _++_, map, flatten}
+use lib.Dec.{leb, ltb}
+use lib.ListN.{length, getD}
+use Rattle.records.specs.Chunks.{recordsOf}
+use Rattle.records.specs.Legs.{legOf, legBytes, isPaid}
+use Rattle.records.specs.Order.{Check, ask, firstOf}
+use Rattle.records.specs.Tables.{mostLegs, goodRecord, wholeTable}
+use Rattle.records.specs.Written.{putAt}
+use Rattle.records.specs.declared.legs.Leg.{Leg}
+use Rattle.records.specs.declared.refusals.Fault.{Fault}
+use Rattle.records.specs.declared.refusals.Fault.the-variants.{Nothing, Is}
+use Rattle.records.specs.declared.tables.Kind.the-variants.{Holdings}
+use Rattle.symbols.specs.Roots.{rootsOf, nameOf, termsOf, rootChecks, placeOfName, placeOfTerms, legTerms}
+use Rattle.symbols.specs.Lines.{linesOf, rootIn, wellFormed, lineSays, lineInRange, lineLeg, lineText}
+use Rattle.symbols.specs.declared.imports.Imported.{Imported}
+use Rattle.symbols.specs.declared.imports.Imported.the-variants.{Records, Refused}
+use Rattle.symbols.specs.declared.exports.Exported.{Exported}
+use Rattle.symbols.specs.declared.exports.Exported.the-variants.{Bytes, Refused as NotExported}
+
+-- ---- import: 'makes holdings in line order'
+
+-- the entry of a line's root
+unfoldable pub placeOfLine : List (List ℕ) → List ℕ → ℕ
+placeOfLine roots xs = placeOfName (rootIn xs) roots
+
+unfoldable pub knownRoot : List (List ℕ) → List ℕ → Bool
+knownRoot roots xs = ltb (placeOfLine roots xs) (length roots)
+
+unfoldable pub legOfLine : List (List ℕ) → List ℕ → Leg
+legOfLine roots xs = lineLeg (termsOf (getD roots (placeOfLine roots xs) [])) (lineSays xs)
+
+-- 'per line .. 22, malformed line or no newline; 4, field out of range ..; 24, root .. not in the table'; the first is line i
+unfoldable pub lineChecks : List (List ℕ) → ℕ → List (List ℕ) → List Check
+lineChecks roots i [] = []
+lineChecks roots i (xs ∷ lines) =
+    ask (wellFormed xs) 22 6 i ∷ ask (lineInRange (lineSays xs)) 4 6 i ∷ ask (knownRoot roots xs) 24 6 i ∷ lineChecks roots (i + 1) lines
+
+-- 'then 1 for more than 256 lines; then 17, table 1 .., bytes needed'
+unfoldable pub recordRoom : ℕ → ℕ → List Check
+recordRoom lines room = ask (leb lines mostLegs) 1 0 0 ∷ ask (leb (32 * lines) room) 17 1 (32 * lines) ∷ []
+
+unfoldable pub importChecks : List ℕ → List ℕ → ℕ → List Check
+importChecks roots list room =
+    rootChecks roots ++ (lineChecks (rootsOf roots) 0 (linesOf list) ++ recordRoom (length (linesOf list)) room)
+
+-- the records of a list's lines
+unfoldable pub recordsFor : List (List ℕ) → List (List ℕ) → List ℕ
+recordsFor roots lines = flatten (map (λ xs. legBytes (legOfLine roots xs)) lines)
+
+unfoldable pub holdingsOf : List ℕ → List ℕ → List ℕ
+holdingsOf roots list = recordsFor (rootsOf roots) (linesOf list)
+
+abbrev pub imported : Fault → ℕ → Imported
+imported Nothing records = Records records
+imported (Is r) records = Refused r
+
+-- with a lent table of so many bytes
+unfoldable pub importOf : List ℕ → List ℕ → ℕ → Imported
+importOf roots list room = imported (firstOf (importChecks roots list room)) (length (linesOf list))
+
+-- what the lent table holds then: the holdings from byte 0, what lies past them stays; on a refusal all stays
+unfoldable pub importLeaves : Imported → List ℕ → List ℕ → List ℕ
+importLeaves (Records n) holdings d = putAt d 0 holdings
+importLeaves (Refused r) holdings d = d
+
+-- ---- 'export is the reverse'
+
+-- '4, field out of range, where export also refuses mark 1'
+unfoldable pub goodUnpaid : List ℕ → Bool
+goodUnpaid xs = goodRecord Holdings xs && not (isPaid (legOf xs))
+
+-- the entry of a record's terms
+unfoldable pub placeOfRecord : List (List ℕ) → List ℕ → ℕ
+placeOfRecord roots xs = placeOfTerms (legTerms (legOf xs)) roots
+
+unfoldable pub knownTerms : List (List ℕ) → List ℕ → Bool
+knownTerms roots xs = ltb (placeOfRecord roots xs) (length roots)
+
+unfoldable pub lineOfRecord : List (List ℕ) → List ℕ → List ℕ
+lineOfRecord roots xs = lineText (nameOf (getD roots (placeOfRecord roots xs) [])) (legOf xs)
+
+-- 'per .. record .. 4 ..; 24, .. terms not in the table'; the first is record i
+unfoldable pub recordChecks : List (List ℕ) → ℕ → List (List ℕ) → List Check
+recordChecks roots i [] = []
+recordChecks roots i (xs ∷ records) =
+    ask (goodUnpaid xs) 4 1 i ∷ ask (knownTerms roots xs) 24 1 i ∷ recordChecks roots (i + 1) records
+
+-- the lines of records
+unfoldable pub linesFor : List (List ℕ) → List (List ℕ) → List ℕ
+linesFor roots records = flatten (map (lineOfRecord roots) records)
+
+unfoldable pub listOf : List ℕ → List ℕ → List ℕ
+listOf roots holdings = linesFor (rootsOf roots) (recordsOf holdings)
+
+-- 'then 17, table .. 6, bytes needed'
+unfoldable pub listRoom : ℕ → ℕ → List Check
+listRoom bytes room = ask (leb bytes room) 17 6 bytes ∷ []
+
+-- 'then 1, holdings not whole records or over 256 of them; then per .. record ..; then 17'
+unfoldable pub exportChecks : List ℕ → List ℕ → ℕ → List Check
+exportChecks roots holdings room =
+    rootChecks roots
+    ++ (ask (wholeTable Holdings (length holdings)) 1 0 0
+    ∷ (recordChecks (rootsOf roots) 0 (recordsOf holdings) ++ listRoom (length (listOf roots holdings)) room))
+
+abbrev pub exported : Fault → ℕ → Exported
+exported Nothing bytes = Bytes bytes
+exported (Is r) bytes = NotExported r
+
+-- with a lent list of so many bytes
+unfoldable pub exportOf : List ℕ → List ℕ → ℕ → Exported
+exportOf roots holdings room = exported (firstOf (exportChecks roots holdings room)) (length (listOf roots holdings))
+
+unfoldable pub exportLeaves : Exported → List ℕ → List ℕ → List ℕ
+exportLeaves (Bytes n) list d = putAt d 0 list
+exportLeaves (NotExported r) list d = d

@@ -1,0 +1,9 @@
+use borrow.Author.Needs.{needs}
+use Rattle.usm_c.proofs.usm_import.Statement.{statement}
+use Rattle.usm_c.proofs.usm_import.Tie as tie
+
+returns : tie.Need-returns
+returns c = let r = c .before .before .before .import .ensures in (rw (r .0) at (c .imported-words .ensures), rw (r .0) at (r .1))
+
+pub usm-import-spec : {M : Type 1} → statement M
+usm-import-spec = tie.close (tie.spec (λ c κs. search needs) (λ c κs. search needs) (λ c. search needs) returns)
