@@ -155,6 +155,14 @@ static void try_tables(int there)
                       TABLE(lent & 4, c), origin, answer);
         compare("usm_read_file", answer);
     }
+    uint8_t sound[sizeof file], numbers[1];
+    uint32_t indices[1];
+    for (int lent = 0; lent < 8; lent++) {
+        usm_salvage(file_len ? file : none(), file_len, TABLE(lent & 1, sound),
+                    lent & 2 ? indices : no_strikes(), lent & 2 ? 1 : 0,
+                    lent & 4 ? numbers : none(), lent & 4 ? 1 : 0, answer);
+        compare("usm_salvage", answer);
+    }
     usm_move_to_old(file_len ? file : none(), file_len, none(), 0, answer);
     compare("usm_move_to_old", answer);
     usm_move_to_new(file_len ? file : none(), file_len, 7, none(), 0, answer);

@@ -285,6 +285,27 @@ static int import_a_list(void)
     return refused("usm_import", answer);
 }
 
+/* One byte of the second of three blocks is changed on its way: the other two are saved, and it is listed. */
+static int salvage_a_file(const struct sheet *sheet)
+{
+    uint8_t file[3 * USM_BLOCK_BYTES], sound[3 * USM_BLOCK_BYTES], numbers[3];
+    uint32_t indices[3];
+    uint64_t answer[USM_ANSWER_NUMBERS];
+    usm_write_file(sheet->holdings, sizeof sheet->holdings, sheet->placement, sizeof sheet->placement,
+                   sheet->claims, sizeof sheet->claims, USM_OLD_FORM, 0, file, sizeof file, answer);
+    if (refused("usm_write_file", answer))
+        return 0;
+    file[USM_BLOCK_BYTES + USM_BLOCK_RECORDS]++;
+    usm_salvage(file, sizeof file, sound, sizeof sound, indices, 3, numbers, 3, answer);
+    if (refused("usm_salvage", answer))
+        return 0;
+    printf("salvaged a file of %" PRIu64 " bytes\n", answer[1]);
+    for (uint64_t i = 0; i < answer[2]; i++)
+        printf("block %" PRIu32 " dropped: %u\n", indices[i], (unsigned)numbers[i]);
+    usm_salvage(file + USM_BLOCK_BYTES, USM_BLOCK_BYTES, sound, sizeof sound, indices, 3, numbers, 3, answer);
+    return refused("usm_salvage", answer);
+}
+
 /* An empty table is NULL and 0. */
 static int write_nothing(void)
 {
@@ -302,7 +323,7 @@ int main(void)
         !print_records(USM_PLACEMENT, sheet.placement, sizeof sheet.placement) ||
         !claim_margins(&sheet) || !print_margin(&sheet, 2) || !print_cash() || !print_worksheet(&sheet, 1) ||
         !check(&sheet) || !write_and_read_back(&sheet) || !play_a_day(&sheet) || !mark_a_long() ||
-        !import_a_list())
+        !import_a_list() || !salvage_a_file(&sheet))
         return 1;
 
     /* There is no group 3 (6), a claim one mill short is 16, and three empty tables make no file. */

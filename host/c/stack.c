@@ -117,6 +117,10 @@ static void play_fills(void)
     usm_play_fills(holdings, sizeof holdings, fills, sizeof fills, result, sizeof result,
                    indices, USM_MOST_FILLS, numbers, USM_MOST_FILLS, answer);
 }
+static void salvage(void)
+{
+    usm_salvage(file, file_len, moved, sizeof moved, indices, USM_MOST_BLOCKS, numbers, USM_MOST_BLOCKS, answer);
+}
 static void export_list(void)
 {
     usm_export(roots, sizeof roots, holdings, sizeof holdings, list, sizeof list, answer);
@@ -160,6 +164,7 @@ int main(void)
     static void (*const calls[])(void) = {
         check_table, margin, cash, margins, worksheet, mark_paid, check_sheet, check_file, read_file, write_file,
         move_to_new, move_to_old, play_fills, export_list, import_list,
+        salvage,
     };
     make_tables();
     make_roots();

@@ -37,8 +37,9 @@
  *               shared inputs, as long as each has an `answer` and buffers of its own.
  *   Stack       A call needs less than USM_STACK_BYTES of stack, whatever it is given; the only
  *               recursion is a call for each digit of a printed number. (usm_file_table takes under two
- *               thirds of it, usm_check_file and usm_file_line some six tenths, usm_check_sheet and the
- *               two moves three tenths, usm_play_fills and the others less than a seventh.)
+ *               thirds of it, usm_check_file, usm_file_line and usm_salvage some six tenths,
+ *               usm_check_sheet and the two moves three tenths, usm_play_fills and the others less than a
+ *               seventh.)
  *
  * What each call answers and leaves in what it is lent is proved; how pointers, threads and the
  * stack behave is tested, in C and in C++, on each build of the library.
@@ -49,8 +50,10 @@
  *
  *    1  a table not whole records or over its limit; a file empty, not whole
  *       blocks or over 39; nothing to write                       0, 0
- *    2  a block's check A or B differs                            0, block
- *    3  any other fault of a block's form                         0, block
+ *    2  a block's check A or B differs; or nothing is kept        0, block;
+ *       by usm_salvage                                            or 0, 0
+ *    3  any other fault of a block's form; or kept records        0, block;
+ *       over a table's limit, or a move from the wrong form       or 0, 0
  *    4  a field out of range                                      table, record
  *    5  a claim not for group (record + 1); or a placed record
  *       with a group above the number of claims                   3 or 2, record
@@ -337,6 +340,28 @@ void usm_move_to_new(const uint8_t *file, size_t file_len, uint64_t account,
  *            the old form.
  */
 void usm_move_to_old(const uint8_t *file, size_t file_len, uint8_t *out, size_t out_len, uint64_t *answer);
+
+/*
+ * Salvages a damaged file of 1 to USM_LONGEST_FILE bytes. Each piece of USM_BLOCK_BYTES is judged by itself,
+ * whatever it says of its number and of how many blocks there are, and wherever it stands. The first that is
+ * kept gives form and account. The records of the kept blocks, joined by kind in file order, go to out as a
+ * sound file. Of each piece that is dropped the index, from 0, goes to indices[0] and following, in file
+ * order, and the number to numbers[0] and following: 1 for a last piece of fewer bytes; else the first that
+ * applies of 2 for its checks, 3 for its form, 4 for a field, and 20 for the account 0 in the new form, or for
+ * another form or account than the first kept block's. An undamaged file comes out the same, and nothing is
+ * listed.
+ *   success  { 0, bytes of the file, entries of the list, 0 }; what lies past the file and past the
+ *            entries stays
+ *   refusals 1 for no byte or too many; 2, table 0, place 0, if nothing is kept; 3, table 0, place 0, if
+ *            the kept records of a table are over its limit; 17, table 0, place the bytes needed, if out
+ *            is shorter; 17, table 0, place the entries needed, if either list has fewer.
+ *            USM_LONGEST_FILE bytes and USM_MOST_BLOCKS entries are always enough.
+ * usm_read_file takes the file that comes out; whether its sheet is accepted is for usm_check_file to say.
+ */
+void usm_salvage(const uint8_t *bytes, size_t bytes_len,
+                 uint8_t *out, size_t out_len,
+                 uint32_t *indices, size_t indices_len,
+                 uint8_t *numbers, size_t numbers_len, uint64_t *answer);
 
 /*
  * Plays the day's fills over yesterday's holdings, in order, as a ledger from line and side to contracts

@@ -2,7 +2,7 @@
 
 use crate::form::Origin;
 use crate::records::Table;
-use crate::refusal::{Accepted, PlayCounts, RecordCounts, Refusal};
+use crate::refusal::{Accepted, PlayCounts, RecordCounts, Refusal, SalvageCounts};
 use crate::{calls, model};
 
 /// The calls of one implementation.
@@ -24,6 +24,7 @@ pub struct Calls {
     pub play_fills: fn(&[u8], &[u8], &mut [u8], &mut [u32], &mut [u8]) -> Result<PlayCounts, Refusal>,
     pub import: fn(&[u8], &[u8], &mut [u8]) -> Result<usize, Refusal>,
     pub export: fn(&[u8], &[u8], &mut [u8]) -> Result<usize, Refusal>,
+    pub salvage: fn(&[u8], &mut [u8], &mut [u32], &mut [u8]) -> Result<SalvageCounts, Refusal>,
     pub file_line: fn(&[u8]) -> String,
     pub file_table: fn(&[u8]) -> String,
 }
@@ -46,6 +47,7 @@ pub const LIBRARY: Calls = Calls {
     play_fills: calls::play_fills,
     import: calls::import,
     export: calls::export,
+    salvage: calls::salvage,
     file_line: calls::file_line,
     file_table: calls::file_table,
 };
@@ -68,6 +70,7 @@ pub const MODEL: Calls = Calls {
     play_fills: model::play_fills,
     import: model::import,
     export: model::export,
+    salvage: model::salvage,
     file_line: model::file_line,
     file_table: model::file_table,
 };

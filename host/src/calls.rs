@@ -6,7 +6,7 @@
 use crate::ffi;
 use crate::form::{Form, Origin};
 use crate::records::Table;
-use crate::refusal::{Accepted, PlayCounts, RecordCounts, Refusal};
+use crate::refusal::{Accepted, PlayCounts, RecordCounts, Refusal, SalvageCounts};
 
 /// Runs a call that fills the four numbers of an answer, and parts results from refusals.
 fn ask(call: impl FnOnce(&mut ffi::Answer)) -> Result<[u64; 3], Refusal> {
@@ -261,6 +261,29 @@ pub fn import(roots: &[u8], list: &[u8], holdings: &mut [u8]) -> Result<usize, R
 /// ```
 pub fn export(roots: &[u8], holdings: &[u8], list: &mut [u8]) -> Result<usize, Refusal> {
     ask(|answer| ffi::export(roots, holdings, list, answer)).map(|[bytes, ..]| bytes as usize)
+}
+
+/// Makes a sound file of what is whole in a damaged one, 1 to 19,968 bytes, into `out`. Each block is judged by
+/// itself, its number and the order of blocks apart; the index in `bytes` and the number of each that is dropped
+/// stand in `indices` and `numbers`, in file order: the first of 2, 3, 4 and 20, and 1 for a torn last block.
+///
+/// 1 for the size; 2 if nothing is kept; 3 if the kept records pass a table's limit; then 17, with the bytes that
+/// the file needs if `out` is shorter, or with the entries of the list if either of its slices is.
+///
+/// ```
+/// use usm::{salvage, Refusal};
+/// let (mut indices, mut numbers) = ([0; 39], [0; 39]);
+/// assert_eq!(salvage(&[0; 700], &mut [], &mut indices, &mut numbers), Err(Refusal::new(2, 0, 0)));
+/// assert_eq!(salvage(&[], &mut [], &mut indices, &mut numbers), Err(Refusal::new(1, 0, 0)));
+/// ```
+pub fn salvage(
+    bytes: &[u8],
+    out: &mut [u8],
+    indices: &mut [u32],
+    numbers: &mut [u8],
+) -> Result<SalvageCounts, Refusal> {
+    ask(|answer| ffi::salvage(bytes, out, indices, numbers, answer))
+        .map(|[bytes, dropped, _]| SalvageCounts { bytes: bytes as usize, dropped: dropped as usize })
 }
 
 /// The line `usm_check` prints for this file, with its newline.

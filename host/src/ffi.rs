@@ -128,6 +128,18 @@ extern "C" {
         answer: *mut u64,
     );
 
+    fn usm_salvage(
+        bytes: *const u8,
+        bytes_len: usize,
+        out: *mut u8,
+        out_len: usize,
+        indices: *mut u32,
+        indices_len: usize,
+        numbers: *mut u8,
+        numbers_len: usize,
+        answer: *mut u64,
+    );
+
     fn usm_file_line(file: *const u8, file_len: usize, line: *mut u8) -> usize;
 
     fn usm_file_table(file: *const u8, file_len: usize, text: *mut u8) -> usize;
@@ -300,6 +312,22 @@ pub fn export(roots: &[u8], holdings: &[u8], list: &mut [u8], answer: &mut Answe
             holdings.len(),
             list.as_mut_ptr(),
             list.len(),
+            answer.as_mut_ptr(),
+        )
+    }
+}
+
+pub fn salvage(bytes: &[u8], out: &mut [u8], indices: &mut [u32], numbers: &mut [u8], answer: &mut Answer) {
+    unsafe {
+        usm_salvage(
+            bytes.as_ptr(),
+            bytes.len(),
+            out.as_mut_ptr(),
+            out.len(),
+            indices.as_mut_ptr(),
+            indices.len(),
+            numbers.as_mut_ptr(),
+            numbers.len(),
             answer.as_mut_ptr(),
         )
     }

@@ -4,9 +4,9 @@
 //! [docs/RULES.md](../../../../docs/RULES.md) of the repository, and what each call promises in
 //! `include/usm.h`. Work on Rust values with [`Sheet`], or on the bytes of tables and files with the
 //! functions beside it. Every input is answered: with a result, or with the first [`Refusal`] in the
-//! rules' order, whose [`Reason`] names it. [`play`] builds holdings from a day's fills, and
-//! [`holdings_of_list`] from a list of option symbols. [`sentences`] says
-//! for people what is wrong, and [`text`] reads and writes sheets as text.
+//! rules' order, whose [`Reason`] names it. [`play`] builds holdings from a day's fills,
+//! [`holdings_of_list`] from a list of option symbols, and [`salvage_file`] makes a sound file of a damaged
+//! one. [`sentences`] says for people what is wrong, and [`text`] reads and writes sheets as text.
 //!
 //! No call keeps any state: all may be made from any number of threads at once.
 
@@ -43,12 +43,13 @@ mod lists;
 mod reason;
 mod records;
 mod refusal;
+mod salvage;
 mod sheet;
 
 pub use block::{BLOCK_BYTES, LONGEST_FILE, MOST_BLOCKS};
 pub use calls::{
     cash, check_file, check_sheet, check_table, export, file_line, file_table, import, margin, margins,
-    mark_paid, move_to_new, move_to_old, play_fills, read_file, worksheet, write_file,
+    mark_paid, move_to_new, move_to_old, play_fills, read_file, salvage, worksheet, write_file,
 };
 pub use fills::{fill_table, play, Played};
 pub use form::{Form, Origin};
@@ -60,5 +61,6 @@ pub use records::{
     LONGEST_LINE, LONGEST_LIST, MOST_CLAIMS, MOST_CONTRACTS, MOST_FILLS, MOST_LEGS, MOST_LINES, MOST_ROOTS,
     RECORD_BYTES, ROOTS_TABLE, ROOT_BYTES, ROOT_NAME_BYTES,
 };
-pub use refusal::{Accepted, PlayCounts, RecordCounts, Refusal};
+pub use refusal::{Accepted, PlayCounts, RecordCounts, Refusal, SalvageCounts};
+pub use salvage::{salvage_file, Dropped, Salvaged};
 pub use sheet::{claim_table, leg_table, Sheet, Tables};

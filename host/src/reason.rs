@@ -14,9 +14,9 @@ pub enum Reason {
     /// 1: a table is not whole records or over its limit; a file is empty, not whole blocks or over 39;
     /// there is nothing to write.
     WrongSize = 1,
-    /// 2: a block's check sum A or B differs.
+    /// 2: a block's check sum A or B differs; or nothing is kept of a damaged file.
     ChecksDiffer = 2,
-    /// 3: any other fault of a block's form, number or order.
+    /// 3: any other fault of a block's form, number or order; or what is kept of a damaged file passes a limit.
     BlockOutOfForm = 3,
     /// 4: a field is out of range.
     FieldOutOfRange = 4,

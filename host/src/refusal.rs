@@ -35,6 +35,15 @@ pub struct PlayCounts {
     pub refused: usize,
 }
 
+/// What became of a damaged file.
+#[derive(Clone, Copy, Debug, PartialEq, Eq)]
+pub struct SalvageCounts {
+    /// Bytes of the sound file that came out.
+    pub bytes: usize,
+    /// Entries of the list: blocks that were dropped, a torn last one included.
+    pub dropped: usize,
+}
+
 /// A refusal: the first that applies in the order of documents 01 and 02.
 ///
 /// Its `Display` is a sentence for people, in which blocks and records count as people count, from the

@@ -10,8 +10,8 @@ use std::path::{Path, PathBuf};
 
 use usm::both::{Calls, BOTH};
 use usm::{
-    holdings_of_list, leg_table, list_of_holdings, play, root_table, sentences, text, Refusal, Root, Sheet,
-    LONGEST_LIST,
+    holdings_of_list, leg_table, list_of_holdings, play, root_table, salvage_file, sentences, text, Refusal,
+    Root, Salvaged, Sheet, LONGEST_LIST,
 };
 
 fn committed() -> PathBuf {
@@ -132,6 +132,24 @@ fn the_list_and_the_holdings_are_one_another() {
     let holdings = holdings_of_list(&roots, text("list.txt").as_bytes()).expect("holdings");
     assert_eq!(text::show_holdings(&holdings), text("holdings.txt"));
     assert_eq!(list_of_holdings(&roots, &holdings), Ok(text("list.txt").into_bytes()));
+}
+
+/// The folder of salvage: the damaged file, the sound one, and what is said of the dropped block.
+#[test]
+fn the_file_with_one_bad_block_is_salvaged() {
+    let files = files_in(&committed().join("salvage"));
+    assert_eq!(files_in(&made("samples-salvage").join("salvage")), files);
+    let (damaged, sound) = (&files["one-bad-block.usm"], &files["salvaged.usm"]);
+    let Salvaged { file, dropped } = salvage_file(damaged).expect("four blocks are sound");
+    assert_eq!(&file, sound);
+    let told = sentences::of_dropped(damaged, &dropped);
+    let told: Vec<String> = told.into_iter().chain(sentences::of_left_out(damaged, &dropped)).collect();
+    let dropped = String::from_utf8(files["dropped.txt"].clone()).expect("UTF-8");
+    assert_eq!(told, dropped.lines().collect::<Vec<&str>>());
+    for calls in &BOTH {
+        assert_eq!((calls.file_line)(damaged), "REFUSE 2 0 3\n", "{}", calls.name);
+        assert_eq!((calls.file_line)(sound), "REFUSE 11 2 1\n", "{}", calls.name);
+    }
 }
 
 #[test]

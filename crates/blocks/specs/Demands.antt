@@ -1,17 +1,21 @@
--- What is demanded of lent memory in every call of this crate, each statement under its sentence. The proofs stand in
--- proofs/Demands.antt; the round trips in specs/RoundTrips.antt.
+-- What is demanded of lent memory in every call of this crate, each statement under its sentence, and of a block judged by itself.
+-- The proofs stand in proofs/Demands.antt and SoundBlocks.antt; the round trips in specs/RoundTrips.antt.
 use Prim.Native.Nat.{ℕ}
 use mathlib.Core.Path.{_≡_}
 use mathlib.Core.List.{List}
 use lib.ListN.{length, drop}
+use Rattle.records.specs.Lists.{All}
 use Rattle.records.specs.declared.refusals.Refusal.{Refusal}
 use Rattle.records.specs.declared.tables.Kind.{Kind}
-use Rattle.blocks.specs.File.{Tables, tableOf, tablesIn, originIn}
+use Rattle.blocks.specs.File.{Tables, tableOf, blocksOf, tablesIn, originIn}
 use Rattle.blocks.specs.Writer.{writeOf, filled}
 use Rattle.blocks.specs.Reader.{countsOf, readOf, leaves, copied}
 use Rattle.blocks.specs.Moves.{moveOf}
+use Rattle.blocks.specs.Alone.{aloneOf}
+use Rattle.blocks.specs.RoundTrips.{Reads}
 use Rattle.blocks.specs.declared.forms.Form.{Form}
 use Rattle.blocks.specs.declared.forms.Origin.{Origin}
+use Rattle.blocks.specs.declared.answers.Alone.the-variants.{Sound}
 use Rattle.blocks.specs.declared.answers.Counts.{Counts}
 use Rattle.blocks.specs.declared.answers.Reading.the-variants.{Read, Refused}
 use Rattle.blocks.specs.declared.answers.Writing.the-variants.{Wrote, Refused as Refused-writing}
@@ -50,3 +54,7 @@ PastFileStays = (o : Origin) (t : Tables) (out : List ℕ) (n : ℕ) → writeOf
 abbrev pub PastMovedStays : Type 0
 PastMovedStays = (from : Form) (to : Origin) (file out : List ℕ) (n : ℕ) → moveOf from to file (length out) ≡ Wrote n
     → drop n (filled (moveOf from to file (length out)) to (tablesIn file) out) ≡ drop n out
+
+-- every block of a file that the reader takes is sound by itself, and of the form and account that the file has
+abbrev pub ReadAreSound : Type 0
+ReadAreSound = (file : List ℕ) → Reads file → All (λ b. aloneOf b ≡ Sound (originIn file)) (blocksOf file)

@@ -15,7 +15,7 @@ use records::RECORD_BYTES;
 
 // Where things stand in a block of 512 bytes: kind and count in its first 16, the records, of 32
 // bytes each, from byte 16 on, bytes 496 to 507 after the last of 15, and the checks after those.
-pub(crate) const BLOCK_BYTES: usize = 512;
+pub const BLOCK_BYTES: usize = 512;
 
 // A file has 1 to 39 blocks.
 pub(crate) const MOST_BLOCKS: usize = 39;

@@ -18,10 +18,11 @@ use Rattle.records.specs.Written.{putAt}
 use Rattle.records.specs.declared.legs.Leg.{Leg}
 use Rattle.records.specs.declared.tables.Kind.the-variants.{Holdings}
 use Rattle.records.proofs.TableLaws.{ranges}
+use Rattle.records.proofs.PutLaws.{put-one}
 use Rattle.fills.specs.Fills.{actionAt, actionOf, plainOf, fillLeg, goodPlain, goodFill}
 use Rattle.fills.specs.Rows.{heldOf, opened, closed}
 use Rattle.fills.specs.Played.{openNumber, closeNumber, fillNumber, numberOver, rowsAfter}
-use Rattle.fills.proofs.PartLaws.{put-whole, put-one}
+use Rattle.fills.proofs.PartLaws.{put-whole}
 
 pub action-is : (xs : List ℕ) (i : ℕ) → getD xs (32 * i + actionAt) 0 ≡ actionOf (chunkAt 32 xs i)
 unfolding leAt

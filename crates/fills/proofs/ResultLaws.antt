@@ -12,6 +12,7 @@ use Rattle.records.specs.Chunks.{chunks, recordsOf}
 use Rattle.records.specs.Legs.{mostContracts, legBytes, legOf, inRange, withContracts, withPaid}
 use Rattle.records.specs.Lines.{sameLineSide, contractsOf}
 use Rattle.records.specs.Lists.{All}
+use Rattle.records.specs.Listed.{indicesOf, numbersOf}
 use Rattle.records.specs.Order.{Check, firstOf}
 use Rattle.records.specs.Tables.{mostLegs, goodRecord, tableChecks, fieldChecks, countedOf, wholeTable}
 use Rattle.records.specs.Written.{putAt}
@@ -30,7 +31,7 @@ use Rattle.records.proofs.ChunkLaws.{length-rows}
 use Rattle.fills.specs.Fills.{isOpen, fillLeg}
 use Rattle.fills.specs.Rows.{heldOf, fewer, opened, closed, mergedInto, merged, bytesOf, unmarked, startingLegs}
 use Rattle.fills.specs.Played.{openNumber, numberOver, rowsAfter, playedOver, refusedOver}
-use Rattle.fills.specs.Calls.{startChecks, askPast, roomChecks, playChecks, rowsPlayed, refusedIn, answered, playOf, left, indicesOf, numbersOf}
+use Rattle.fills.specs.Calls.{startChecks, askPast, roomChecks, playChecks, rowsPlayed, refusedIn, answered, playOf, left}
 use Rattle.fills.specs.Ledger.{Apart, Filled}
 use Rattle.fills.specs.Demands.{CallStands, ResultSound, ResultUnpaid, ResultStays, Leaves, LeftBy, PlayLeaves}
 use Rattle.fills.specs.declared.calls.Played.{Played}

@@ -7,13 +7,14 @@ use lib.ListN.{length, take, drop}
 use Rattle.records.specs.Chunks.{recordsOf}
 use Rattle.records.specs.Lines.{contractsOf}
 use Rattle.records.specs.Lists.{All}
+use Rattle.records.specs.Listed.{indicesOf, numbersOf}
 use Rattle.records.specs.Tables.{countedOf, legsOf}
 use Rattle.records.specs.declared.legs.Leg.{Leg}
 use Rattle.records.specs.declared.tables.Kind.the-variants.{Holdings}
 use Rattle.records.specs.declared.tables.Counted.the-variants.{Records}
 use Rattle.fills.specs.Rows.{merged, bytesOf, startingLegs}
 use Rattle.fills.specs.Played.{playedOver, refusedOver}
-use Rattle.fills.specs.Calls.{rowsPlayed, refusedIn, playOf, left, indicesOf, numbersOf}
+use Rattle.fills.specs.Calls.{rowsPlayed, refusedIn, playOf, left}
 use Rattle.fills.specs.Ledger.{Ledger, emptyLedger, startedFrom, ledgerOver, refusedBy, StandFor, Filled}
 use Rattle.fills.specs.Balance.{acceptedOver, openedIn, closedIn}
 use Rattle.fills.specs.declared.calls.Played.{Played}

@@ -1,12 +1,12 @@
 -- What a lent slice holds after writes: a loop that writes one element at a time, and one write after another.
 use mathlib.Core.Path.{_≡_, refl, sym, ap, _∙_}
-use mathlib.Core.List.{List, _++_, append-assoc}
+use mathlib.Core.List.{List, [], _∷_, _++_, append-assoc}
 use Prim.Native.Nat.{ℕ, suc, _+_, _≤_, _<_}
 use native.Mathlib.Nat.{add-assoc, zero-add}
 use native.Mathlib.Numerals.{add-one}
 use native.Mathlib.Omega.{arith}
 use lib.ListN.{length, take, drop, getD, set, length-append, length-take, length-drop}
-use lib.Seq.{paste-zero, paste-suc, take-all, take-at, drop-at, drop-drop, drop-append-add, length-take-le}
+use lib.Seq.{paste-zero, paste-suc, take-all, take-at, drop-at, drop-drop, drop-append-add, length-take-le, set-split}
 use borrow.Rule.Slice.PartMut.{putMid}
 use Rattle.records.specs.Written.{putAt}
 
@@ -53,6 +53,20 @@ module _ {A : Type 0} where
   put-put d p s at k h e =
       rw (← (drop-drop (length s) k (putAt d at p)), append-assoc (take k (putAt d at p)) s (drop (length s) (drop k (putAt d at p))))
       (put-next d p s at k (length s) h e refl)
+
+  -- nothing written, one element written, and one element after what is written from index 0 on
+  pub put-empty : (d : List A) → d ≡ putAt d 0 []
+  unfolding putAt
+  put-empty d = refl
+
+  pub put-one : (d : List A) (k : ℕ) (v : A) → k < length d → set d k v ≡ putAt d k (v ∷ [])
+  unfolding putAt
+  put-one d k v h = set-split d k v h ∙ rw (← add-one) (sym (append-assoc (take k d) (v ∷ []) (drop (k + 1) d)))
+
+  pub put-snoc : (d s out : List A) (k : ℕ) (v : A) → out ≡ putAt d 0 s → length s ≡ k → k < length d → set out k v ≡ putAt d 0 (s ++ v ∷ [])
+  put-snoc d s out k v e h r =
+      let q : length (putAt d 0 s) ≡ length d = length-putAt d 0 s (omega arith) in
+      rw e (put-one (putAt d 0 s) k v (omega arith) ∙ put-put d s (v ∷ []) 0 k (omega arith) (omega arith))
 
   -- what is written from index 0 on is no longer than what then stands there
   pub put-holds : (d s : List A) → length s ≤ length (putAt d 0 s)

@@ -17,7 +17,7 @@ use Rattle.sheets.specs.Verdicts.{verdictOf}
 use Rattle.verdicts.specs.FileVerdicts.{fileVerdict}
 use Rattle.verdicts.specs.TableText.{tableText}
 use Rattle.usm_c.specs.Answers.{dueWords, verdictWords, writingWords, tableWords}
-use Rattle.usm_c.specs.Outcomes.{marginsWords, marginsLeft, worksheetWords, strikesLeft, netsLeft, readWords, tableLeft, originLeft, writeAs, outLeft, movedLeft, playWords, resultLeft, indicesLeft, numbersLeft, fileLine, markWords, placementLeft, importWords, importLeft, exportWords, exportLeft}
+use Rattle.usm_c.specs.Outcomes.{marginsWords, marginsLeft, worksheetWords, strikesLeft, netsLeft, readWords, tableLeft, originLeft, writeAs, outLeft, movedLeft, playWords, resultLeft, indicesLeft, numbersLeft, fileLine, markWords, placementLeft, importWords, importLeft, exportWords, exportLeft, salvageWords, soundLeft, droppedLeft, reasonsLeft}
 
 -- ---- calls that leave an answer only
 
@@ -111,6 +111,19 @@ module _ (roots list holdings : List ℕ) where
 
   export-left-unique : (a b : List ℕ) → a ≡ exportLeft roots holdings list → b ≡ exportLeft roots holdings list → a ≡ b
   export-left-unique a b = one-outcome
+
+module _ (f d i m : List ℕ) where
+  salvage-unique : (a b : List ℕ) → a ≡ salvageWords f d i m → b ≡ salvageWords f d i m → a ≡ b
+  salvage-unique a b = one-outcome
+
+  sound-left-unique : (a b : List ℕ) → a ≡ soundLeft f d i m → b ≡ soundLeft f d i m → a ≡ b
+  sound-left-unique a b = one-outcome
+
+  dropped-left-unique : (a b : List ℕ) → a ≡ droppedLeft f d i m → b ≡ droppedLeft f d i m → a ≡ b
+  dropped-left-unique a b = one-outcome
+
+  reasons-left-unique : (a b : List ℕ) → a ≡ reasonsLeft f d i m → b ≡ reasonsLeft f d i m → a ≡ b
+  reasons-left-unique a b = one-outcome
 
 module _ (file line : List ℕ) where
   file-line-unique : (a b : ℕ) → a ≡ length (fileLine file) → b ≡ length (fileLine file) → a ≡ b

@@ -15,7 +15,7 @@ ghost use Rattle.sheets.specs.Verdicts.{verdictOf};
 ghost use Rattle.verdicts.specs.FileVerdicts.{fileVerdict};
 ghost use Rattle.verdicts.specs.TableText.{tableText};
 ghost use Rattle.usm_c.specs.Answers.{dueWords, verdictWords, writingWords, tableWords};
-ghost use Rattle.usm_c.specs.Outcomes.{marginsWords, marginsLeft, worksheetWords, strikesLeft, netsLeft, readWords, tableLeft, originLeft, writeAs, outLeft, movedLeft, playWords, resultLeft, indicesLeft, numbersLeft, fileLine, markWords, placementLeft, importWords, importLeft, exportWords, exportLeft};
+ghost use Rattle.usm_c.specs.Outcomes.{marginsWords, marginsLeft, worksheetWords, strikesLeft, netsLeft, readWords, tableLeft, originLeft, writeAs, outLeft, movedLeft, playWords, resultLeft, indicesLeft, numbersLeft, fileLine, markWords, placementLeft, importWords, importLeft, exportWords, exportLeft, salvageWords, soundLeft, droppedLeft, reasonsLeft};
 
 mod origins;
 mod words;
@@ -31,6 +31,7 @@ use words::listed_words;
 use words::marked_words;
 use words::played_words;
 use words::reading_words;
+use words::salvaged_words;
 use words::table_words;
 use words::verdict_words;
 use words::writing_words;
@@ -204,6 +205,23 @@ pub extern "C" fn usm_export(roots: &[u8], holdings: &[u8], list: &mut [u8], ans
     ensures { λ _. ⌜ now (list .exit) ≡ exportLeft (now (roots .entry)) (now (holdings .entry)) (now (list .entry)) ⌝ }
 {
     *answer = exported_words(symbols::export(roots, holdings, list));
+}
+
+// A damaged file salvaged: the sound file, and which blocks were dropped.
+#[no_mangle]
+pub extern "C" fn usm_salvage(
+    bytes: &[u8],
+    out: &mut [u8],
+    indices: &mut [u32],
+    numbers: &mut [u8],
+    answer: &mut [u64; 4],
+)
+    ensures { λ _. ⌜ now (answer .exit) ≡ salvageWords (now (bytes .entry)) (now (out .entry)) (now (indices .entry)) (now (numbers .entry)) ⌝ }
+    ensures { λ _. ⌜ now (out .exit) ≡ soundLeft (now (bytes .entry)) (now (out .entry)) (now (indices .entry)) (now (numbers .entry)) ⌝ }
+    ensures { λ _. ⌜ now (indices .exit) ≡ droppedLeft (now (bytes .entry)) (now (out .entry)) (now (indices .entry)) (now (numbers .entry)) ⌝ }
+    ensures { λ _. ⌜ now (numbers .exit) ≡ reasonsLeft (now (bytes .entry)) (now (out .entry)) (now (indices .entry)) (now (numbers .entry)) ⌝ }
+{
+    *answer = salvaged_words(salvage::salvage(bytes, out, indices, numbers));
 }
 
 // The line that is printed for a sheet file; the answer is its length.

@@ -1,12 +1,13 @@
 // The four words of each kind of answer.
 ghost use mathlib.Core.Path.{_≡_};
-ghost use Rattle.usm_c.specs.Answers.{doneWords, refusedWords, countedWords, dueWords, listedWords, verdictWords, readingWords, writingWords, markedWords, playedWords, importedWords, exportedWords, tableWords, DueMills, VerdictMills};
+ghost use Rattle.usm_c.specs.Answers.{doneWords, refusedWords, countedWords, dueWords, listedWords, verdictWords, readingWords, writingWords, markedWords, playedWords, importedWords, exportedWords, tableWords, DueMills, VerdictMills, salvagedWords};
 use blocks::Reading;
 use blocks::Writing;
 use fills::Played;
 use records::Counted;
 use records::Kind;
 use records::Refusal;
+use salvage::Salvaged;
 use sheets::Marked;
 use sheets::Verdict;
 use spreads::Due;
@@ -120,6 +121,15 @@ pub(crate) fn exported_words(exported: Exported) -> [u64; 4]
     match exported {
         Exported::Bytes(n) => done(n as u64, 0, 0),
         Exported::Refused(refusal) => refused(refusal),
+    }
+}
+
+pub(crate) fn salvaged_words(salvaged: Salvaged) -> [u64; 4]
+    ensures { λ r. ⌜ r ≡ salvagedWords salvaged ⌝ }
+{
+    match salvaged {
+        Salvaged::Saved(bytes, entries) => done(bytes as u64, entries as u64, 0),
+        Salvaged::Refused(refusal) => refused(refusal),
     }
 }
 

@@ -15,6 +15,18 @@ pub struct Parts {
 }
 
 impl Parts {
+    /// No records yet.
+    pub fn of(origin: Origin) -> Parts {
+        Parts { by_kind: Default::default(), origin }
+    }
+
+    /// Adds a block's records behind those of its kind; answers all of these.
+    pub fn add(&mut self, kind: Table, records: &[u8]) -> &[u8] {
+        let table = &mut self.by_kind[kind as usize - 1];
+        table.extend_from_slice(records);
+        table
+    }
+
     pub fn tables(&self) -> Tables<'_> {
         let [holdings, placement, claims] = &self.by_kind;
         Tables { holdings, placement, claims }
@@ -34,26 +46,26 @@ pub fn check_size(file: &[u8]) -> Result<(), Refusal> {
 pub fn parts(file: &[u8]) -> Result<Parts, Refusal> {
     check_size(file)?;
     let blocks = file.len() / BLOCK_BYTES;
-    // A first block with neither mark counts as old, and is out of form there.
-    let form = if file.starts_with(b"USM2") { Form::New } else { Form::Old };
-    let first = if form == Form::New { account(file) } else { 0 };
-    let mut parts = Parts { by_kind: Default::default(), origin: Origin { form, account: first } };
+    let first = origin(file);
+    let mut parts = Parts::of(first);
     let mut previous: Option<Header> = None;
     for (number, block) in file.chunks_exact(BLOCK_BYTES).enumerate() {
-        if checks(block) != (u16_at(block, CHECKS_AT), u16_at(block, CHECKS_AT + 2)) {
+        if !checks_fit(block) {
             return Err(Refusal::new(2, 0, number as u64));
         }
         let out_of_form = Refusal::new(3, 0, number as u64);
-        let header = header(block, form, number, blocks).ok_or(out_of_form)?;
+        let header = header(block, first.form).ok_or(out_of_form)?;
+        if !is_numbered(block, number, blocks) {
+            return Err(out_of_form);
+        }
         if previous.map_or(false, |previous| !may_follow(previous, header)) {
             return Err(out_of_form);
         }
-        let table = &mut parts.by_kind[header.kind as usize - 1];
-        table.extend_from_slice(&block[RECORDS_AT..header.records_end()]);
+        let table = parts.add(header.kind, header.records_of(block));
         if table.len() > header.kind.most_bytes() {
             return Err(out_of_form);
         }
-        if form == Form::New && (account(block) == 0 || account(block) != first) {
+        if is_of_another(origin(block), first) {
             return Err(Refusal::new(20, 0, number as u64));
         }
         previous = Some(header);
@@ -62,8 +74,8 @@ pub fn parts(file: &[u8]) -> Result<Parts, Refusal> {
 }
 
 #[derive(Clone, Copy)]
-struct Header {
-    kind: Table,
+pub struct Header {
+    pub kind: Table,
     records: usize,
 }
 
@@ -71,21 +83,41 @@ impl Header {
     fn records_end(&self) -> usize {
         RECORDS_AT + self.records * RECORD_BYTES
     }
+
+    pub fn records_of<'a>(&self, block: &'a [u8]) -> &'a [u8] {
+        &block[RECORDS_AT..self.records_end()]
+    }
 }
 
-/// The header of block `number` of `blocks`, if all but the records and the account is in this form.
-fn header(block: &[u8], form: Form, number: usize, blocks: usize) -> Option<Header> {
+/// The header of a block, if all but its numbering, its records and its account is in this form.
+pub fn header(block: &[u8], form: Form) -> Option<Header> {
     let kind = *Table::ALL.iter().find(|kind| **kind as u8 == block[4])?;
     let header = Header { kind, records: usize::from(block[5]) };
     let in_form = block[0..4] == *mark(form)
         && (1..=RECORDS_IN_BLOCK).contains(&header.records)
-        && usize::from(u16_at(block, 6)) == number
-        && usize::from(u16_at(block, 8)) == blocks
         && is_zero(&block[10..RECORDS_AT])
         && is_zero(&block[header.records_end()..ACCOUNT_AT])
         && (form == Form::New || is_zero(&block[ACCOUNT_AT..ACCOUNT_END]))
         && is_zero(&block[ACCOUNT_END..CHECKS_AT]);
     in_form.then_some(header)
+}
+
+/// Bytes 6 to 9 say that this is block `number` of `blocks`.
+fn is_numbered(block: &[u8], number: usize, blocks: usize) -> bool {
+    usize::from(u16_at(block, 6)) == number && usize::from(u16_at(block, 8)) == blocks
+}
+
+/// The form and the account of a block. One with neither mark counts as old, and is out of form there.
+pub fn origin(block: &[u8]) -> Origin {
+    match block.starts_with(mark(Form::New)) {
+        true => Origin { form: Form::New, account: account(block) },
+        false => Origin { form: Form::Old, account: 0 },
+    }
+}
+
+/// Refusal 20: the account zero, or another form or account than the first block's.
+pub fn is_of_another(origin: Origin, first: Origin) -> bool {
+    origin.form == Form::New && origin.account == 0 || origin != first
 }
 
 /// What a block of this form begins with.
@@ -107,9 +139,10 @@ fn may_follow(previous: Header, next: Header) -> bool {
     before < after || (before == after && previous.records == RECORDS_IN_BLOCK)
 }
 
-/// The length of the file these tables make.
-pub fn length(tables: &Tables) -> usize {
-    contents(tables).count() * BLOCK_BYTES
+/// As much of a lent buffer as the file of these tables takes; or 17.
+pub fn room<'a>(tables: &Tables, out: &'a mut [u8]) -> Result<&'a mut [u8], Refusal> {
+    let length = contents(tables).count() * BLOCK_BYTES;
+    out.get_mut(..length).ok_or(Refusal::new(17, 0, length as u64))
 }
 
 /// The kind and the records of each block.
@@ -121,7 +154,7 @@ fn contents<'a>(tables: &Tables<'a>) -> impl Iterator<Item = (Table, &'a [u8])> 
         .flat_map(move |(kind, table)| table.chunks(full).map(move |records| (kind, records)))
 }
 
-/// Fills a buffer of just that length, in a form that says the account or in the one that does not.
+/// Fills just that room, in a form that says the account or in the one that does not.
 pub fn fill(tables: &Tables, origin: Origin, out: &mut [u8]) {
     let blocks = (out.len() / BLOCK_BYTES) as u16;
     let places = out.chunks_exact_mut(BLOCK_BYTES);
@@ -140,6 +173,11 @@ pub fn fill(tables: &Tables, origin: Origin, out: &mut [u8]) {
         block[CHECKS_AT..CHECKS_AT + 2].copy_from_slice(&a.to_le_bytes());
         block[CHECKS_AT + 2..].copy_from_slice(&b.to_le_bytes());
     }
+}
+
+/// Refusal 2 is for a block in which they do not.
+pub fn checks_fit(block: &[u8]) -> bool {
+    checks(block) == (u16_at(block, CHECKS_AT), u16_at(block, CHECKS_AT + 2))
 }
 
 /// Check A is the sum of bytes 0 to 507, check B weighs byte i by 508 - i.

@@ -7,6 +7,7 @@
 mod boxes;
 mod file;
 mod fills;
+mod salvage;
 mod sheet;
 mod spread;
 mod symbols;
@@ -21,10 +22,7 @@ use tables::Tables;
 /// How many records a table has, if it is whole and every field is in range.
 pub fn check_table(which: Table, table: &[u8]) -> Result<usize, Refusal> {
     tables::check_size(which, table)?;
-    match which {
-        Table::Holdings | Table::Placement => tables::legs(which, table).map(|legs| legs.len()),
-        Table::Claims => tables::claims(table).map(|claims| claims.len()),
-    }
+    tables::check_fields(which, table)
 }
 
 /// The margin of group `g`, in mills.
@@ -134,10 +132,9 @@ pub fn write_file(
 
 /// The file of these tables, or 17.
 fn written(tables: &Tables, origin: Origin, out: &mut [u8]) -> Result<usize, Refusal> {
-    let length = file::length(tables);
-    let room = out.get_mut(..length).ok_or(Refusal::new(17, 0, length as u64))?;
+    let room = file::room(tables, out)?;
     file::fill(tables, origin, room);
-    Ok(length)
+    Ok(room.len())
 }
 
 /// Moves a file of the old form to the new one, with this account.
@@ -169,6 +166,9 @@ pub use fills::play as play_fills;
 
 /// Makes holdings of a list of option symbols, and a list of holdings.
 pub use symbols::{export, import};
+
+/// Makes a sound file of what is whole in a damaged one; lists what is dropped.
+pub use salvage::salvage;
 
 /// The line `usm_check` prints for this file.
 pub fn file_line(file: &[u8]) -> String {

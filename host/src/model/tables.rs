@@ -53,6 +53,14 @@ pub fn check_size(which: Table, table: &[u8]) -> Result<(), Refusal> {
     }
 }
 
+/// How many records there are, or 4 at the first whose fields are not in range.
+pub fn check_fields(which: Table, table: &[u8]) -> Result<usize, Refusal> {
+    match which {
+        Table::Holdings | Table::Placement => legs(which, table).map(|legs| legs.len()),
+        Table::Claims => claims(table).map(|claims| claims.len()),
+    }
+}
+
 /// A placement table given by itself: 1, then 4 over the whole table.
 pub fn placement(table: &[u8]) -> Result<Vec<Leg>, Refusal> {
     check_size(Table::Placement, table)?;

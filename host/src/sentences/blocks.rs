@@ -19,55 +19,61 @@ pub fn sentence(file: &[u8], refusal: &Refusal) -> Option<String> {
             return Some(format!("{which} is damaged: its check sums do not fit its bytes"));
         }
         Some(Reason::WrongAccount) => {
-            return account_fault(file, block).map(|fault| format!("{which} {fault}"))
+            return account_fault(block, file, "first block").map(|fault| format!("{which} {fault}"))
         }
         _ => {}
     }
     let first = Form::of_block(file).unwrap_or(Form::Old);
-    let fault = mark_fault(block, first)
-        .or_else(|| header_fault(block, first, number, blocks))
+    let fault = mark_fault(block, first, "first block")
+        .or_else(|| header_fault(block, first))
+        .or_else(|| number_fault(block, number, blocks))
         .or_else(|| order_fault(file, number))?;
     Some(format!("{which} is out of form: {fault}"))
 }
 
-/// Another account than the first block's, or none.
-fn account_fault(file: &[u8], block: &[u8]) -> Option<String> {
-    match (account_of(block), account_of(file)) {
+/// Another account than that of the first block, by the name it goes by, or none.
+pub fn account_fault(block: &[u8], first: &[u8], named: &str) -> Option<String> {
+    match (account_of(block), account_of(first)) {
         (0, _) => Some(String::from("has the account number 0; accounts are numbered from 1")),
-        (this, first) if this != first => Some(format!(
-            "is of account {this}, and the first block of account {first}: two accounts are joined"
-        )),
+        (this, first) if this != first => {
+            Some(format!("is of account {this}, and the {named} of account {first}: two accounts are joined"))
+        }
         _ => None,
     }
 }
 
 /// No mark, or another one than the first block has.
-fn mark_fault(block: &[u8], first: Form) -> Option<String> {
+pub fn mark_fault(block: &[u8], first: Form, named: &str) -> Option<String> {
     let name = |form: Form| String::from_utf8_lossy(&form.mark()).into_owned();
     match Form::of_block(block) {
         None => Some(String::from("it does not begin with the mark `USM1` or `USM2`")),
-        Some(form) if form != first => Some(format!(
-            "it begins with the mark `{}` and the first block with `{}`",
-            name(form),
-            name(first)
-        )),
+        Some(form) if form != first => {
+            Some(format!("it begins with the mark `{}` and the {named} with `{}`", name(form), name(first)))
+        }
         Some(_) => None,
     }
 }
 
-/// A fault of the block by itself, behind its mark.
-fn header_fault(block: &[u8], form: Form, number: usize, blocks: usize) -> Option<String> {
-    let (kind, records) = (block[4], usize::from(block[5]));
+/// The number of a block, or the count of blocks in it.
+fn number_fault(block: &[u8], number: usize, blocks: usize) -> Option<String> {
     let u16_at = |at: usize| usize::from(u16::from_le_bytes([block[at], block[at + 1]]));
+    if u16_at(6) != number {
+        Some(format!("its number is {} and should be {number}", u16_at(6)))
+    } else if u16_at(8) != blocks {
+        Some(format!("it says that the file has {}, not {blocks}", count(u16_at(8) as u64, "block")))
+    } else {
+        None
+    }
+}
+
+/// A fault of the block by itself, behind its mark.
+pub fn header_fault(block: &[u8], form: Form) -> Option<String> {
+    let (kind, records) = (block[4], usize::from(block[5]));
     let zero = |bytes: &[u8]| bytes.iter().all(|&byte| byte == 0);
     if table_of(kind).is_none() {
         Some(format!("its kind is {kind}, not 1 (holdings), 2 (placement) or 3 (claims)"))
     } else if !(1..=RECORDS_IN_BLOCK).contains(&records) {
         Some(format!("it says that it has {}, not 1 to {RECORDS_IN_BLOCK}", count(records as u64, "record")))
-    } else if u16_at(6) != number {
-        Some(format!("its number is {} and should be {number}", u16_at(6)))
-    } else if u16_at(8) != blocks {
-        Some(format!("it says that the file has {}, not {blocks}", count(u16_at(8) as u64, "block")))
     } else if !zero(&block[10..RECORDS_AT]) {
         Some(String::from("its bytes 10 to 15 are not zero"))
     } else if !zero(&block[RECORDS_AT + records * RECORD_BYTES..ACCOUNT_AT])
@@ -108,11 +114,11 @@ fn order_fault(file: &[u8], number: usize) -> Option<String> {
         .then(|| format!("with it there are {records} records of the {}, more than {most}", name(table)))
 }
 
-fn table_of(kind: u8) -> Option<Table> {
+pub fn table_of(kind: u8) -> Option<Table> {
     Table::ALL.into_iter().find(|table| table.number() == u64::from(kind))
 }
 
-fn name(table: Table) -> &'static str {
+pub fn name(table: Table) -> &'static str {
     match table {
         Table::Holdings => "holdings",
         Table::Placement => "placement",

@@ -25,20 +25,35 @@ pub fn sentence(file: &[u8], refusal: &Refusal) -> Option<String> {
 
 /// The fields of a record, at this place of its table, that are out of range.
 pub fn of_record(table: Table, record: &[u8; RECORD_BYTES], place: u64) -> Option<String> {
+    let which = match table {
+        Table::Holdings => "record of the holdings",
+        Table::Placement => "record of the placement",
+        Table::Claims => "claim",
+    };
+    faults(table, record).map(|faults| format!("the {} {which} {faults}", ordinal(place)))
+}
+
+/// The first record of one block, whose sums and form are good, that has a field out of range.
+pub fn in_block(block: &[u8], table: Table) -> Option<String> {
+    (0..u64::from(block[5])).find_map(|place| {
+        let faults = faults(table, &record(block, table, place)?)?;
+        Some(format!("its {} record {faults}", ordinal(place)))
+    })
+}
+
+/// The text of a record, and what is out of range in it, if anything is.
+fn faults(table: Table, record: &[u8; RECORD_BYTES]) -> Option<String> {
     let faults: Vec<String> = ranges(table)
         .into_iter()
         .map(|range| (get(record, 0, range.field), range))
         .filter(|(value, range)| !(range.holds)(*value))
         .map(|(value, range)| format!("its {} is {value} and must be {}", range.name, range.says))
         .collect();
-    let (which, text) = match table {
-        Table::Holdings => ("record of the holdings", raw_text(record)),
-        Table::Placement => ("record of the placement", raw_text(record)),
-        Table::Claims => {
-            ("claim", format!("claim {} {}", get(record, 0, GROUP), get(record, 0, CLAIM_MARGIN)))
-        }
+    let text = match table {
+        Table::Holdings | Table::Placement => raw_text(record),
+        Table::Claims => format!("claim {} {}", get(record, 0, GROUP), get(record, 0, CLAIM_MARGIN)),
     };
-    (!faults.is_empty()).then(|| format!("the {} {which} (`{text}`): {}", ordinal(place), faults.join("; ")))
+    (!faults.is_empty()).then(|| format!("(`{text}`): {}", faults.join("; ")))
 }
 
 /// A record of a file whose blocks are in form.

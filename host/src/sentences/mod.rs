@@ -9,6 +9,7 @@ mod groups;
 mod lines;
 mod moves;
 mod rules;
+mod salvage;
 mod short;
 mod size;
 mod symbols;
@@ -20,6 +21,7 @@ use crate::sheet::Sheet;
 pub use boxes::of_box;
 pub use fills::of_fills;
 pub use moves::of_move;
+pub use salvage::{of_dropped, of_left_out, of_salvage};
 pub(crate) use short::short;
 pub use symbols::{of_export, of_import, of_line};
 

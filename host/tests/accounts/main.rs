@@ -12,6 +12,7 @@ mod forms;
 mod limits;
 mod look_right;
 mod minis;
+mod salvage;
 mod symbols;
 mod unplaced;
 

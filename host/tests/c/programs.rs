@@ -31,6 +31,9 @@ usm_check_sheet: refusal 15, table 2, place 0
 usm_check_sheet: accepted, groups 0, total 0 mills
 a list of 2 holdings, and the same list again
 usm_import: refusal 24, table 6, place 0
+salvaged a file of 1024 bytes
+block 1 dropped: 2
+usm_salvage: refusal 2, table 0, place 0
 usm_margin: refusal 6, table 2, place 3
 usm_check_sheet: refusal 16, table 3, place 2
 usm_write_file: refusal 1, table 0, place 0
@@ -59,7 +62,7 @@ fn the_c_example_prints_what_it_says() {
 
 #[test]
 fn empty_slices_may_be_null() {
-    let printed = "165 calls with empty slices, 0 wrong\n";
+    let printed = "229 calls with empty slices, 0 wrong\n";
     assert_prints(&run(&c_compiler(), C, "empty.c"), printed);
     if let Some(compiler) = cxx_compiler() {
         assert_prints(&run(&compiler, CXX, "empty.c"), printed);

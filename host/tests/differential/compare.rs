@@ -13,7 +13,7 @@ use crate::fills::Day;
 const UNWRITTEN: u64 = 0xFEED_FACE_CAFE_BEEF;
 
 /// The four numbers that a call makes its answer, if the guards around them stayed.
-fn answer_of(call: impl FnOnce(&mut Answer)) -> Option<Answer> {
+pub fn answer_of(call: impl FnOnce(&mut Answer)) -> Option<Answer> {
     let mut numbers = [UNWRITTEN; 6];
     call((&mut numbers[1..5]).try_into().expect("four numbers"));
     let [before, answer @ .., behind] = numbers;
@@ -21,7 +21,7 @@ fn answer_of(call: impl FnOnce(&mut Answer)) -> Option<Answer> {
 }
 
 /// The four numbers a result stands for.
-fn numbers<T: Copy>(result: &Result<T, Refusal>, of_success: impl Fn(T) -> [u64; 3]) -> Answer {
+pub fn numbers<T: Copy>(result: &Result<T, Refusal>, of_success: impl Fn(T) -> [u64; 3]) -> Answer {
     match result {
         Ok(success) => {
             let [first, second, third] = of_success(*success);
@@ -32,13 +32,13 @@ fn numbers<T: Copy>(result: &Result<T, Refusal>, of_success: impl Fn(T) -> [u64;
 }
 
 /// Fails unless the library's answer is the model's; hands back the refusal number or 0.
-fn same(case: &dyn Display, call: &str, library: Option<Answer>, model: Answer) -> u64 {
+pub fn same(case: &dyn Display, call: &str, library: Option<Answer>, model: Answer) -> u64 {
     assert_eq!(library, Some(model), "{case}: {call}: library (left) and model (right) differ");
     model[0]
 }
 
 /// Fails unless a lent buffer holds what the model made of it, and no more was written.
-fn same_buffer<T>(case: &dyn Display, call: &str, library: &Lent<T>, model: &Lent<T>, output: usize)
+pub fn same_buffer<T>(case: &dyn Display, call: &str, library: &Lent<T>, model: &Lent<T>, output: usize)
 where
     T: Copy + From<u8> + PartialEq + Debug,
 {

@@ -16,6 +16,7 @@ mod files;
 mod fills;
 mod laws;
 mod random;
+mod salvage;
 mod sheets;
 mod shortness;
 mod spreads;
@@ -157,7 +158,7 @@ fn lists_out() {
 /// Blocks of two accounts or of two forms in one file.
 #[test]
 fn joined_files() {
-    run("joined_files", 6, &[0, 3, 17, 20], |case, random, tally| {
+    run("joined_files", 5, &[0, 3, 17, 20], |case, random, tally| {
         let tables = sheets::valid(random).tables();
         let mut file = files::joined(random, &tables);
         if random.one_in(4) {
@@ -170,7 +171,7 @@ fn joined_files() {
 #[test]
 fn damaged_files() {
     let wanted = [0, 1, 2, 3, 4, 5, 6, 10, 11, 12, 14, 17, 20];
-    run("damaged_files", 12, &wanted, |case, random, tally| {
+    run("damaged_files", 10, &wanted, |case, random, tally| {
         let mut tables = sheets::valid(random).tables();
         if random.one_in(4) {
             faults::one(random, &mut tables);

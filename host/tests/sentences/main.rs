@@ -6,6 +6,7 @@
 mod fields;
 mod files;
 mod fills;
+mod salvage;
 mod sheets;
 mod symbols;
 
@@ -91,8 +92,8 @@ fn cases() -> Vec<Case> {
 #[test]
 fn every_sentence_is_that_of_the_table() {
     let of_calls = [of_groups(), of_cash()].concat();
-    let parts = [short(), of_files(&cases()), of_calls, fills::sentences(), symbols::sentences()];
-    let found = parts.join("\n");
+    let of_others = [fills::sentences(), symbols::sentences(), salvage::sentences()].join("\n");
+    let found = [short(), of_files(&cases()), of_calls, of_others].join("\n");
     let table = Path::new(env!("CARGO_MANIFEST_DIR")).join("tests/sentences/sentences.txt");
     if std::env::var_os("USM_WRITE_SENTENCES").is_some() {
         fs::write(&table, &found).expect("the table is written");

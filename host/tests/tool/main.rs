@@ -13,6 +13,7 @@ mod make;
 mod moves;
 mod paid;
 mod play;
+mod salvage;
 mod script;
 mod symbols;
 

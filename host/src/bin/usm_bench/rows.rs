@@ -1,6 +1,6 @@
 //! What is timed: each row is one call with one input, by the model and by the library.
 
-use usm::block::{BLOCK_BYTES, LONGEST_FILE};
+use usm::block::{BLOCK_BYTES, LONGEST_FILE, MOST_BLOCKS};
 use usm::both::{Calls, LIBRARY, MODEL};
 use usm::{
     fill_table, leg_table, Accepted, Fill, Leg, Origin, Refusal, Settlement, Sheet, Style, Table, Tables,
@@ -154,6 +154,18 @@ fn play_fills(name: &'static str, holdings: &[Leg], fills: &[Fill]) -> Row {
     })
 }
 
+fn salvage(name: &'static str, bytes: &[u8]) -> Row {
+    row(name, |calls| {
+        let bytes = bytes.to_vec();
+        let mut out = vec![0; LONGEST_FILE];
+        let (mut indices, mut numbers) = ([0; MOST_BLOCKS], [0; MOST_BLOCKS]);
+        move || {
+            let counts = (calls.salvage)(&bytes, &mut out, &mut indices, &mut numbers);
+            folded(counts, |counts| (counts.bytes << 16 | counts.dropped) as u64)
+        }
+    })
+}
+
 fn file_of(sheet: &Sheet) -> Vec<u8> {
     sheet.to_file().expect("a sheet to be timed can be written")
 }
@@ -233,6 +245,7 @@ fn ordinary() -> Vec<Row> {
         write_file("write file, 39 blocks, new form", &new),
         move_to_new("move 39 blocks to the new form", &file_of(&full)),
         move_to_old("move 39 blocks to the old form", &file_of(&new)),
+        salvage("salvage 39 blocks, one damaged", &damaged(&full, 20)),
         mark_paid("mark 256 unplaced longs as paid", &held(MOST_LEGS)),
         play_fills("play 60 fills over 60 records", &held(60), &day(60, 60)),
         play_fills("play 1,024 fills over 256 records", &held(MOST_LEGS), &day(MOST_LEGS, MOST_FILLS)),

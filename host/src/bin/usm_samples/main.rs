@@ -1,5 +1,6 @@
 //! Writes the samples: small sheet files named after what they show, each with the text it
-//! is made from where text can make it; a day's fills, as texts; and lists of option symbols.
+//! is made from where text can make it; a day's fills, as texts; lists of option symbols; and a damaged file
+//! with what is salvaged of it.
 
 #![forbid(unsafe_code)]
 
@@ -9,6 +10,7 @@ mod fills;
 mod list;
 mod lists;
 mod refused;
+mod salvage;
 
 use std::ffi::OsString;
 use std::fs;
@@ -47,13 +49,14 @@ fn write_all(folder: &Path, force: bool) -> Result<ExitCode, String> {
         }
         write(&folder.join(sample.name).with_extension("usm"), &file, force)?;
     }
-    write_texts(&folder.join("fills"), &fills::texts()?, force)?;
-    write_texts(&folder.join("lists"), &lists::texts()?, force)?;
+    write_into(&folder.join("fills"), &fills::texts()?, force)?;
+    write_into(&folder.join("lists"), &lists::texts()?, force)?;
+    write_into(&folder.join("salvage"), &salvage::files()?, force)?;
     Ok(ExitCode::SUCCESS)
 }
 
-/// Texts that belong together, in a folder of their own.
-fn write_texts(folder: &Path, texts: &[(&str, String)], force: bool) -> Result<(), String> {
+/// Samples that belong together, in a folder of their own.
+fn write_into<Bytes: AsRef<[u8]>>(folder: &Path, files: &[(&str, Bytes)], force: bool) -> Result<(), String> {
     fs::create_dir_all(folder).map_err(|error| format!("{}: {error}", shown(folder)))?;
-    texts.iter().try_for_each(|(name, text)| write(&folder.join(name), text.as_bytes(), force))
+    files.iter().try_for_each(|(name, bytes)| write(&folder.join(name), bytes.as_ref(), force))
 }

@@ -19,6 +19,37 @@ pub enum Found {
     Unread(String),
 }
 
+impl Found {
+    /// The verdict on a file's bytes.
+    pub fn of(file: &[u8]) -> Found {
+        match check_file(file) {
+            Ok(accepted) => Found::Accepted(accepted),
+            Err(refusal) => Found::Refused(refusal, sentences::of_file(file, &refusal)),
+        }
+    }
+
+    /// The line for programs, which a file that could not be read does not have.
+    pub fn line(&self) -> String {
+        match self {
+            Found::Accepted(accepted) => accepted.line(),
+            Found::Refused(refusal, _) => refusal.line(),
+            Found::Unread(_) => String::new(),
+        }
+    }
+
+    /// The same for people.
+    pub fn sentence(&self) -> String {
+        match self {
+            Found::Accepted(Accepted { groups, total }) => {
+                let groups = if *groups == 1 { String::from("1 group") } else { format!("{groups} groups") };
+                format!("accepted: {groups}, total margin {} ({total} mills)", dollars(*total))
+            }
+            Found::Refused(_, sentence) => format!("refused: {sentence}"),
+            Found::Unread(message) => message.clone(),
+        }
+    }
+}
+
 #[derive(Default)]
 struct Tally {
     accepted: usize,
@@ -54,10 +85,7 @@ fn judge(file: &mut Vec<u8>, name: &OsStr) -> Found {
     if let Err(message) = read_into(file, name, LONGEST_FILE) {
         return Found::Unread(message);
     }
-    match check_file(file) {
-        Ok(accepted) => Found::Accepted(accepted),
-        Err(refusal) => Found::Refused(refusal, sentences::of_file(file, &refusal)),
-    }
+    Found::of(file)
 }
 
 /// The line and the sentence of one file. Of several, those that are accepted need no sentence.
@@ -65,23 +93,12 @@ fn report(output: &mut Output, name: &OsStr, several: bool, found: &Found) -> Re
     let name = shown(name);
     let before = if several { format!("{name}: ") } else { String::new() };
     match found {
-        Found::Accepted(accepted) => {
-            output.print(format!("{before}{}", accepted.line()).as_bytes())?;
-            let Accepted { groups, total } = accepted;
-            let groups = if *groups == 1 { String::from("1 group") } else { format!("{groups} groups") };
-            let sentence =
-                format!("{name}: accepted: {groups}, total margin {} ({total} mills)", dollars(*total));
-            if several {
-                Ok(())
-            } else {
-                output.tell(&sentence)
-            }
-        }
-        Found::Refused(refusal, sentence) => {
-            output.print(format!("{before}{}", refusal.line()).as_bytes())?;
-            output.tell(&format!("{name}: refused: {sentence}"))
-        }
-        Found::Unread(_) => Ok(()),
+        Found::Unread(_) => return Ok(()),
+        _ => output.print(format!("{before}{}", found.line()).as_bytes())?,
+    }
+    match found {
+        Found::Accepted(_) if several => Ok(()),
+        _ => output.tell(&format!("{name}: {}", found.sentence())),
     }
 }
 

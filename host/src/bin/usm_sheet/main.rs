@@ -15,6 +15,7 @@ mod output;
 mod paid;
 mod play;
 mod plot;
+mod salvage;
 mod symbols;
 
 use std::ffi::OsString;
@@ -37,6 +38,8 @@ usage:
   sheet to-old FILE OUT           move it back to the old form [--force]
   sheet mark-paid FILE OUT        take a sheet file from before the paid mark through the pass
                                   that marks every unplaced long as paid [--force]
+  sheet salvage FILE OUT          make the sound file OUT of what is whole in a damaged one, and
+                                  tell what was dropped [--force]
   sheet play HOLDINGS FILLS OUT   play a text of fills over a text of holdings, and write what
                                   is held then as the text OUT [--force]
   sheet import ROOTS LIST OUT     make holdings of a list of option symbols, by a text of roots,
@@ -52,8 +55,8 @@ options. An OUT that is there already is left alone unless --force is given. `ch
 the line of each file on standard output, behind its name if there are several, and
 sentences for people on standard error; with --json it prints one object a file instead. The
 exit status is 0 if all is well; 1 if `check` refuses a file, `play` a fill, `import` a list
-or `export` holdings, or a group of `margins` or `worksheet` is no spread, or one of `cash` not
-fit for it; 2 if something could not be done.
+or `export` holdings, `salvage` drops a block, or a group of `margins` or `worksheet` is no
+spread, or one of `cash` not fit for it; 2 if something could not be done.
 ";
 
 fn main() -> ExitCode {
@@ -83,6 +86,7 @@ fn run(words: Vec<OsString>) -> Result<ExitCode, String> {
         ("play", [holdings, fills, out], force, false) => play::play(holdings, fills, out, force),
         ("import", [roots, list, out], force, false) => symbols::import(roots, list, out, force),
         ("export", [roots, file, out], force, false) => symbols::export(roots, file, out, force),
+        ("salvage", [file, out], force, false) => salvage::salvage(file, out, force),
         ("help", [], false, false) => help(),
         _ => Err(not_understood(String::from("the command was not understood"))),
     }

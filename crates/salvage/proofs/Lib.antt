@@ -1,0 +1,9 @@
+pub mod SoundLaws
+pub mod PieceLaws
+pub mod SortLaws
+pub mod KeptTables
+pub mod CallLaws
+pub mod Undamaged
+pub mod ListedLaws
+pub mod Demands
+pub mod Unique

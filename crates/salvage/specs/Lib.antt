@@ -1,0 +1,5 @@
+pub mod Pieces
+pub mod Kept
+pub mod Calls
+pub mod Steps
+pub mod Demands
