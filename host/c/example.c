@@ -306,6 +306,23 @@ static int salvage_a_file(const struct sheet *sheet)
     return refused("usm_salvage", answer);
 }
 
+/* Credit event binaries: ten written, eight bought and paid for in full beside them, and some that expired. */
+static int print_binaries(void)
+{
+    const uint64_t valuation = 20110315, reference = 7, spread = 250, expiry = 20160620;
+    uint64_t answer[USM_ANSWER_NUMBERS];
+    usm_binary_margin(USM_SHORT, spread, valuation, expiry, 10, answer);
+    if (refused("usm_binary_margin", answer))
+        return 0;
+    printf("ten binaries short: margin %" PRId64 "\n", (int64_t)answer[1]);
+    usm_binary_pair(valuation, reference, spread, expiry, 8, 1, reference, spread, expiry, 10, answer);
+    if (refused("usm_binary_pair", answer))
+        return 0;
+    printf("with eight long beside them: margin %" PRId64 "\n", (int64_t)answer[1]);
+    usm_binary_margin(USM_LONG, spread, valuation, valuation - 1, 10, answer);
+    return refused("usm_binary_margin", answer);
+}
+
 /* An empty table is NULL and 0. */
 static int write_nothing(void)
 {
@@ -323,7 +340,7 @@ int main(void)
         !print_records(USM_PLACEMENT, sheet.placement, sizeof sheet.placement) ||
         !claim_margins(&sheet) || !print_margin(&sheet, 2) || !print_cash() || !print_worksheet(&sheet, 1) ||
         !check(&sheet) || !write_and_read_back(&sheet) || !play_a_day(&sheet) || !mark_a_long() ||
-        !import_a_list() || !salvage_a_file(&sheet))
+        !import_a_list() || !salvage_a_file(&sheet) || !print_binaries())
         return 1;
 
     /* There is no group 3 (6), a claim one mill short is 16, and three empty tables make no file. */

@@ -130,6 +130,11 @@ static void import_list(void)
 {
     usm_import(roots, sizeof roots, list, list_len, result, sizeof result, answer);
 }
+static void binary_margin(void) { usm_binary_margin(USM_SHORT, 250, 20110315, 20160620, 10, answer); }
+static void binary_pair(void)
+{
+    usm_binary_pair(20110315, 7, 250, 20160620, 8, 1, 7, 250, 20160620, 10, answer);
+}
 static void file_line(void) { usm_file_line(file, file_len, line); }
 static void file_table(void) { usm_file_table(file, file_len, text); }
 static void nothing(void) { answer[0] = 0; }
@@ -163,8 +168,7 @@ int main(void)
 {
     static void (*const calls[])(void) = {
         check_table, margin, cash, margins, worksheet, mark_paid, check_sheet, check_file, read_file, write_file,
-        move_to_new, move_to_old, play_fills, export_list, import_list,
-        salvage,
+        move_to_new, move_to_old, play_fills, export_list, import_list, salvage, binary_margin, binary_pair,
     };
     make_tables();
     make_roots();

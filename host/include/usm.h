@@ -27,7 +27,7 @@
  *               answered.
  *   answer      Exactly four numbers, always written in full:
  *                 success  { 0, ... }  the results, as told at each call
- *                 refusal  { number, table, place, 0 }, number 1 to 24 but 18, which
+ *                 refusal  { number, table, place, 0 }, number 1 to 25 but 18, which
  *                          is only listed
  *               table: 0 none, 1 holdings, 2 placement, 3 claims, 4 fills, 5 roots, 6 list.
  *   Buffers     On a refusal nothing lent is written but `answer`, and the `line` and `text` of
@@ -83,6 +83,8 @@
  *       formed, out of range or repeats an earlier one            or 5, root
  *   24  a line's root, or a record's terms, are not in the        6, line;
  *       table of roots                                            or 1, record
+ *   25  an expiry before the valuation date, after 4; of          0, 0; or 0, 1
+ *       usm_binary_margin and usm_binary_pair only                for the short
  */
 
 #ifndef USM_H
@@ -144,7 +146,8 @@ enum {
     USM_NOT_FIT_FOR_CASH = 21,
     USM_LINE_MALFORMED = 22,
     USM_ROOTS_ILL_FORMED = 23,
-    USM_NOT_IN_ROOTS = 24
+    USM_NOT_IN_ROOTS = 24,
+    USM_EXPIRY_BEFORE_VALUATION = 25
 };
 
 /* The forms of a file. */
@@ -263,6 +266,39 @@ void usm_margins(const uint8_t *placement, size_t placement_len, uint64_t n,
 void usm_worksheet(const uint8_t *placement, size_t placement_len, uint64_t g,
                    uint32_t *strikes, size_t strikes_len,
                    int64_t *nets, size_t nets_len, uint64_t *answer);
+
+/*
+ * The margin of a position in a credit event binary option (CBOE circular RG11-039): contracts times a
+ * percentage of the 1,000 dollar settlement, of the table for longs or of that for shorts, which
+ * docs/RULES.md has in full, by the swap spread and by the time from the valuation date to expiry.
+ *   side       USM_LONG, USM_SHORT
+ *   spread     the credit default swap spread in basis points, 0 to 100,000; 100, 300, 500 and 700 are in
+ *              the higher row
+ *   valuation  YYYYMMDD, a real date, 20000101 to 20991231
+ *   expiry     the same; up to 1, 3 and 7 years on, to the same month and day, a missing 29 February
+ *              being the 28th
+ *   contracts  1 to 100,000
+ *   success  { 0, mills, 0, 0 }, at most 30,000,000,000
+ *   refusals 4, table 0, place 0, for any of the five; then 25, table 0, place 0, for an expiry before the
+ *            valuation date. An option that expires on it is answered.
+ */
+void usm_binary_margin(uint64_t side, uint64_t spread, uint64_t valuation, uint64_t expiry,
+                       uint64_t contracts, uint64_t *answer);
+
+/*
+ * The margin of a long and a short position together. Where both are on the same reference obligation, any
+ * number, and the long is paid in full (long_paid is 1) and does not expire before the short, the smaller
+ * count of contracts is matched and needs nothing; what is left of the larger keeps its percentage. Where
+ * any of this does not hold, both keep their full percentage. Each position has its own spread and expiry.
+ *   success  { 0, mills, 0, 0 }, at most 45,000,000,000
+ *   refusals 4, table 0, place 0, for a field of the long, a long_paid other than 0 or 1, or the valuation
+ *            date; 4, table 0, place 1, for a field of the short; then 25, table 0, place 0 for the long's
+ *            expiry, then place 1 for the short's.
+ */
+void usm_binary_pair(uint64_t valuation, uint64_t long_reference, uint64_t long_spread,
+                     uint64_t long_expiry, uint64_t long_contracts, uint64_t long_paid,
+                     uint64_t short_reference, uint64_t short_spread, uint64_t short_expiry,
+                     uint64_t short_contracts, uint64_t *answer);
 
 /*
  * Sets the paid mark on every unplaced long of a placement, where it stands. Sheets from before the mark

@@ -1,7 +1,8 @@
 //! The library and the model as two values of one type, to hold them against each other.
 
+use crate::binaries::{binary_margin, binary_pair, Binary, LongBinary};
 use crate::form::Origin;
-use crate::records::Table;
+use crate::records::{Side, Table};
 use crate::refusal::{Accepted, PlayCounts, RecordCounts, Refusal, SalvageCounts};
 use crate::{calls, model};
 
@@ -25,6 +26,8 @@ pub struct Calls {
     pub import: fn(&[u8], &[u8], &mut [u8]) -> Result<usize, Refusal>,
     pub export: fn(&[u8], &[u8], &mut [u8]) -> Result<usize, Refusal>,
     pub salvage: fn(&[u8], &mut [u8], &mut [u32], &mut [u8]) -> Result<SalvageCounts, Refusal>,
+    pub binary_margin: fn(Side, u64, u64, u64, u64) -> Result<i64, Refusal>,
+    pub binary_pair: fn(u64, LongBinary, Binary) -> Result<i64, Refusal>,
     pub file_line: fn(&[u8]) -> String,
     pub file_table: fn(&[u8]) -> String,
 }
@@ -48,6 +51,8 @@ pub const LIBRARY: Calls = Calls {
     import: calls::import,
     export: calls::export,
     salvage: calls::salvage,
+    binary_margin,
+    binary_pair,
     file_line: calls::file_line,
     file_table: calls::file_table,
 };
@@ -71,6 +76,8 @@ pub const MODEL: Calls = Calls {
     import: model::import,
     export: model::export,
     salvage: model::salvage,
+    binary_margin: model::binary_margin,
+    binary_pair: model::binary_pair,
     file_line: model::file_line,
     file_table: model::file_table,
 };

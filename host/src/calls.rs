@@ -9,7 +9,7 @@ use crate::records::Table;
 use crate::refusal::{Accepted, PlayCounts, RecordCounts, Refusal, SalvageCounts};
 
 /// Runs a call that fills the four numbers of an answer, and parts results from refusals.
-fn ask(call: impl FnOnce(&mut ffi::Answer)) -> Result<[u64; 3], Refusal> {
+pub(crate) fn ask(call: impl FnOnce(&mut ffi::Answer)) -> Result<[u64; 3], Refusal> {
     let mut answer = [0; 4];
     call(&mut answer);
     match answer {

@@ -140,6 +140,29 @@ extern "C" {
         answer: *mut u64,
     );
 
+    fn usm_binary_margin(
+        side: u64,
+        spread: u64,
+        valuation: u64,
+        expiry: u64,
+        contracts: u64,
+        answer: *mut u64,
+    );
+
+    fn usm_binary_pair(
+        valuation: u64,
+        long_reference: u64,
+        long_spread: u64,
+        long_expiry: u64,
+        long_contracts: u64,
+        long_paid: u64,
+        short_reference: u64,
+        short_spread: u64,
+        short_expiry: u64,
+        short_contracts: u64,
+        answer: *mut u64,
+    );
+
     fn usm_file_line(file: *const u8, file_len: usize, line: *mut u8) -> usize;
 
     fn usm_file_table(file: *const u8, file_len: usize, text: *mut u8) -> usize;
@@ -328,6 +351,30 @@ pub fn salvage(bytes: &[u8], out: &mut [u8], indices: &mut [u32], numbers: &mut 
             indices.len(),
             numbers.as_mut_ptr(),
             numbers.len(),
+            answer.as_mut_ptr(),
+        )
+    }
+}
+
+/// Side, spread, valuation date, expiry and contracts.
+pub fn binary_margin([side, spread, valuation, expiry, contracts]: [u64; 5], answer: &mut Answer) {
+    unsafe { usm_binary_margin(side, spread, valuation, expiry, contracts, answer.as_mut_ptr()) }
+}
+
+/// A position is reference obligation, spread, expiry and contracts; behind the long's stands its paid mark.
+pub fn binary_pair(valuation: u64, long: [u64; 5], short: [u64; 4], answer: &mut Answer) {
+    unsafe {
+        usm_binary_pair(
+            valuation,
+            long[0],
+            long[1],
+            long[2],
+            long[3],
+            long[4],
+            short[0],
+            short[1],
+            short[2],
+            short[3],
             answer.as_mut_ptr(),
         )
     }

@@ -6,7 +6,8 @@
 //! functions beside it. Every input is answered: with a result, or with the first [`Refusal`] in the
 //! rules' order, whose [`Reason`] names it. [`play`] builds holdings from a day's fills,
 //! [`holdings_of_list`] from a list of option symbols, and [`salvage_file`] makes a sound file of a damaged
-//! one. [`sentences`] says for people what is wrong, and [`text`] reads and writes sheets as text.
+//! one; [`binary_margin`] and [`binary_pair`] are for credit event binaries. [`sentences`] says for people
+//! what is wrong, and [`text`] reads and writes sheets as text.
 //!
 //! No call keeps any state: all may be made from any number of threads at once.
 
@@ -36,6 +37,7 @@ pub mod model;
 #[doc(hidden)]
 pub mod program;
 
+mod binaries;
 mod calls;
 mod fills;
 mod form;
@@ -46,6 +48,9 @@ mod refusal;
 mod salvage;
 mod sheet;
 
+pub use binaries::{
+    binary_cell, binary_margin, binary_pair, Binary, Cell, LongBinary, GREATEST_SPREAD, SPREADS, TIMES,
+};
 pub use block::{BLOCK_BYTES, LONGEST_FILE, MOST_BLOCKS};
 pub use calls::{
     cash, check_file, check_sheet, check_table, export, file_line, file_table, import, margin, margins,

@@ -60,11 +60,13 @@ pub enum Reason {
     RootsIllFormed = 23,
     /// 24: the root of a line, or the terms of a record, are not in the table of roots.
     NotInRoots = 24,
+    /// 25: a credit event binary expires before the valuation date.
+    ExpiryBeforeValuation = 25,
 }
 
 impl Reason {
     /// All of them, in the order of their numbers.
-    pub const ALL: [Reason; 24] = [
+    pub const ALL: [Reason; 25] = [
         Reason::WrongSize,
         Reason::ChecksDiffer,
         Reason::BlockOutOfForm,
@@ -89,6 +91,7 @@ impl Reason {
         Reason::LineMalformed,
         Reason::RootsIllFormed,
         Reason::NotInRoots,
+        Reason::ExpiryBeforeValuation,
     ];
 
     /// Its number in documents 01 and 02.
@@ -107,10 +110,10 @@ mod tests {
     use super::*;
 
     #[test]
-    fn reasons_are_numbered_1_to_24() {
+    fn reasons_are_numbered_1_to_25() {
         let numbers: Vec<u64> = Reason::ALL.into_iter().map(Reason::number).collect();
-        assert_eq!(numbers, (1..=24).collect::<Vec<u64>>());
+        assert_eq!(numbers, (1..=25).collect::<Vec<u64>>());
         assert!(Reason::ALL.into_iter().all(|reason| Reason::of_number(reason.number()) == Some(reason)));
-        assert_eq!([0, 25, u64::MAX].map(Reason::of_number), [None; 3]);
+        assert_eq!([0, 26, u64::MAX].map(Reason::of_number), [None; 3]);
     }
 }

@@ -51,7 +51,7 @@ pub struct SalvageCounts {
 /// `usm_check` prints.
 #[derive(Clone, Copy, Debug, PartialEq, Eq)]
 pub struct Refusal {
-    /// 1 to 24.
+    /// 1 to 25.
     pub number: u64,
     /// 0 none, 1 holdings, 2 placement, 3 claims, 4 fills, 5 roots, 6 list.
     pub table: u64,

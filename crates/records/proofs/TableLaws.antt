@@ -47,7 +47,7 @@ within-true low high x e =
     let p = and-eq-true-iff (leb low x) (leb x high) .0 e in
     (leb-true low x (p .0), leb-true x high (p .1))
 
-date-true : (n : ℕ) → realDate n ≡ true → (20000101 ≤ n) × (n ≤ 20991231)
+pub date-true : (n : ℕ) → realDate n ≡ true → (20000101 ≤ n) × (n ≤ 20991231)
 unfolding realDate
 date-true n e = within-true 20000101 20991231 n (and-eq-true-iff _ _ .0 e .0)
 

@@ -7,7 +7,7 @@ use Rattle.records.specs.Bytes.{leAt}
 use Rattle.records.specs.Chunks.{chunkAt}
 use Rattle.records.specs.Legs.{contractsFrom, legOf, legBytes, unitsOf, plusUnits, plusContracts, lessContracts, withContracts, withPaid}
 use Rattle.records.specs.Claims.{claimOf}
-use Rattle.records.specs.Dates.{realDate}
+use Rattle.records.specs.Dates.{leapYear, realDate}
 use Rattle.records.specs.Lines.{sameLine, sameLineSide}
 use Rattle.records.specs.Order.{firstOf}
 use Rattle.records.specs.Tables.{tableNumber, goodRecord, inLimit, wholeTable, wholeTables, fieldChecks, fieldsChecks, countedOf}
@@ -26,6 +26,12 @@ one-outcome p q = p ∙ sym q
 u16-at-unique : (part : List ℕ) (at r s : ℕ) → r ≡ leAt part at 2 → s ≡ leAt part at 2 → r ≡ s
 u16-at-unique part at r s = one-outcome
 
+leap-year-unique : (year : ℕ) (r s : Bool) → r ≡ leapYear year → s ≡ leapYear year → r ≡ s
+leap-year-unique year r s = one-outcome
+
+real-date-unique : (n : ℕ) (r s : Bool) → r ≡ realDate n → s ≡ realDate n → r ≡ s
+real-date-unique n r s = one-outcome
+
 leg-at-unique : (table : List ℕ) (i : ℕ) (r s : Leg) → r ≡ legOf (chunkAt 32 table i) → s ≡ legOf (chunkAt 32 table i) → r ≡ s
 leg-at-unique table i r s = one-outcome
 
@@ -34,9 +40,6 @@ claim-at-unique table i r s = one-outcome
 
 of-unique : (n : ℕ) (r s : Contracts) → r ≡ contractsFrom n → s ≡ contractsFrom n → r ≡ s
 of-unique n r s = one-outcome
-
-real-date-unique : (n : ℕ) (r s : Bool) → r ≡ realDate n → s ≡ realDate n → r ≡ s
-real-date-unique n r s = one-outcome
 
 units-unique : (c : Contracts) (size : ℕ) (r s : Units) → r ≡ unitsOf c size → s ≡ unitsOf c size → r ≡ s
 units-unique c size r s = one-outcome

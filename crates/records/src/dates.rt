@@ -4,7 +4,7 @@ ghost use Rattle.records.specs.Dates.{leapYear, february, daysIn, realDa
 ghost use Rattle.records.specs.Within.{within};
 use crate::within::is_within;
 
-fn leap_year(year: u32) -> bool
+pub fn leap_year(year: u32) -> bool
     ensures { λ r. ⌜ r ≡ leapYear year ⌝ }
 {
     (year % 4 == 0) & (!(year % 100 == 0) | (year % 400 == 0))

@@ -1,27 +1,35 @@
 -- An amount of an answer is never below zero, so that the word for it is the amount itself.
 use mathlib.Core.Path.{_≡_, refl}
+use mathlib.Core.Bool.{Bool, true, false, cond}
 use mathlib.Core.List.{List, _++_}
 use Prim.Native.Nat.{ℕ}
 use native.Mathlib.Omega.{arith}
-use lib.Dec.{T}
+use lib.Dec.{T, eqb}
 use lib.IntN.{ℤ, pos, negsuc, natAbs}
 use lib.Signed.{nonNeg}
 use mir.Syntax.{w64}
 use mir.Val.{Fits, SFits, toZ, ofZ}
 use mir.Facts.{toZ-ofZ}
-use Rattle.records.specs.Order.{firstOf}
+use Rattle.records.specs.Order.{refuse, firstOf}
 use Rattle.records.specs.Tables.{tableChecks, legsOf}
 use Rattle.records.specs.declared.refusals.Fault.{Fault}
 use Rattle.records.specs.declared.refusals.Fault.the-variants.{Nothing, Is}
 use Rattle.records.specs.declared.tables.Kind.the-variants.{Placement}
 use Rattle.blocks.specs.Reader.{readChecks}
+use Rattle.binaries.specs.Calls.{required, singleChecks, singleCall, pairChecks, pairCall}
+use Rattle.binaries.specs.Margins.{marginOf, pairMargin}
+use Rattle.binaries.specs.declared.percentages.Side.{Side}
+use Rattle.binaries.specs.declared.percentages.Side.the-variants.{Long, Short}
+use Rattle.binaries.specs.declared.positions.Position.{Position}
+use Rattle.binaries.specs.declared.calls.Required.the-variants.{Refused as Refused-required}
 use Rattle.spreads.specs.Calls.{dueAnswer, groupChecks, marginCall}
 use Rattle.spreads.specs.Cash.{cashRule, cashCall}
 use Rattle.sheets.specs.Sheets.{sheetChecks}
 use Rattle.sheets.specs.Verdicts.{verdictIn, verdictOf}
 use Rattle.sheets.specs.declared.sheet.Verdict.{Verdict}
 use Rattle.verdicts.specs.FileVerdicts.{afterReading, fileVerdict}
-use Rattle.usm_c.specs.Answers.{IsMills, DueMills, VerdictMills}
+use Rattle.usm_c.specs.Answers.{IsMills, DueMills, RequiredMills, VerdictMills}
+use Rattle.usm_c.specs.Outcomes.{singleAs, longAs, pairAs}
 
 -- the bits of such an amount are read as the amount
 pub mills-fit : (z : ℤ) → SFits w64 z → IsMills z
@@ -56,3 +64,39 @@ sheet-mills h p c = verdict-mills (firstOf (sheetChecks h p c)) _ _
 pub file-mills : (file : List ℕ) → VerdictMills (fileVerdict file)
 unfolding fileVerdict
 file-mills file = after-mills (firstOf (readChecks file)) _ (sheet-mills _ _ _)
+
+-- ---- positions in credit event binary options
+
+required-mills : (fault : Fault) (mills : ℕ) → RequiredMills (required fault mills)
+required-mills Nothing mills = refl
+required-mills (Is r) mills = tt
+
+pub single-mills : (side spread valuation expiry contracts : ℕ) → RequiredMills (singleAs side spread valuation expiry contracts)
+unfolding singleAs singleCall
+single-mills side spread valuation expiry contracts = go (eqb side 1) (eqb side 2)
+  where
+    answered : (s : Side) → RequiredMills (required (firstOf (singleChecks spread valuation expiry contracts)) (marginOf s spread valuation expiry contracts))
+    answered s = required-mills (firstOf (singleChecks spread valuation expiry contracts)) (marginOf s spread valuation expiry contracts)
+
+    go : (a b : Bool)
+        → RequiredMills (cond a (required (firstOf (singleChecks spread valuation expiry contracts)) (marginOf Long spread valuation expiry contracts))
+        (cond b (required (firstOf (singleChecks spread valuation expiry contracts)) (marginOf Short spread valuation expiry contracts))
+        (Refused-required (refuse 4 0 0))))
+    go true b = answered Long
+    go false true = answered Short
+    go false false = tt
+
+pub pair-mills : (valuation : ℕ) (long : Position) (paid : ℕ) (short : Position) → RequiredMills (pairAs valuation long paid short)
+unfolding pairAs pairCall
+pair-mills valuation long paid short = go (eqb paid 0) (eqb paid 1)
+  where
+    answered : (m : Bool) → RequiredMills (required (firstOf (pairChecks valuation long short)) (pairMargin valuation (longAs long m) short))
+    answered m = required-mills (firstOf (pairChecks valuation long short)) (pairMargin valuation (longAs long m) short)
+
+    go : (a b : Bool)
+        → RequiredMills (cond a (required (firstOf (pairChecks valuation long short)) (pairMargin valuation (longAs long false) short))
+        (cond b (required (firstOf (pairChecks valuation long short)) (pairMargin valuation (longAs long true) short))
+        (Refused-required (refuse 4 0 0))))
+    go true b = answered false
+    go false true = answered true
+    go false false = tt

@@ -11,13 +11,14 @@ use Rattle.blocks.specs.File.{Tables}
 use Rattle.blocks.specs.Moves.{moveOf}
 use Rattle.blocks.specs.declared.forms.Form.{Form}
 use Rattle.blocks.specs.declared.forms.Origin.{Origin}
+use Rattle.binaries.specs.declared.positions.Position.{Position}
 use Rattle.spreads.specs.Calls.{marginCall}
 use Rattle.spreads.specs.Cash.{cashCall}
 use Rattle.sheets.specs.Verdicts.{verdictOf}
 use Rattle.verdicts.specs.FileVerdicts.{fileVerdict}
 use Rattle.verdicts.specs.TableText.{tableText}
-use Rattle.usm_c.specs.Answers.{dueWords, verdictWords, writingWords, tableWords}
-use Rattle.usm_c.specs.Outcomes.{marginsWords, marginsLeft, worksheetWords, strikesLeft, netsLeft, readWords, tableLeft, originLeft, writeAs, outLeft, movedLeft, playWords, resultLeft, indicesLeft, numbersLeft, fileLine, markWords, placementLeft, importWords, importLeft, exportWords, exportLeft, salvageWords, soundLeft, droppedLeft, reasonsLeft}
+use Rattle.usm_c.specs.Answers.{dueWords, verdictWords, writingWords, tableWords, requiredWords}
+use Rattle.usm_c.specs.Outcomes.{marginsWords, marginsLeft, worksheetWords, strikesLeft, netsLeft, readWords, tableLeft, originLeft, writeAs, outLeft, movedLeft, playWords, resultLeft, indicesLeft, numbersLeft, fileLine, markWords, placementLeft, importWords, importLeft, exportWords, exportLeft, salvageWords, soundLeft, droppedLeft, reasonsLeft, singleAs, pairAs}
 
 -- ---- calls that leave an answer only
 
@@ -29,6 +30,14 @@ margin-unique placement g a b = one-outcome
 
 cash-unique : (placement : List ℕ) (g : ℕ) (a b : List ℕ) → a ≡ dueWords (cashCall placement g) → b ≡ dueWords (cashCall placement g) → a ≡ b
 cash-unique placement g a b = one-outcome
+
+binary-margin-unique : (side spread valuation expiry contracts : ℕ) (a b : List ℕ) → a ≡ requiredWords (singleAs side spread valuation expiry contracts)
+    → b ≡ requiredWords (singleAs side spread valuation expiry contracts) → a ≡ b
+binary-margin-unique side spread valuation expiry contracts a b = one-outcome
+
+binary-pair-unique : (valuation : ℕ) (long : Position) (paid : ℕ) (short : Position) (a b : List ℕ) → a ≡ requiredWords (pairAs valuation long paid short)
+    → b ≡ requiredWords (pairAs valuation long paid short) → a ≡ b
+binary-pair-unique valuation long paid short a b = one-outcome
 
 check-sheet-unique : (h p c a b : List ℕ) → a ≡ verdictWords (verdictOf h p c) → b ≡ verdictWords (verdictOf h p c) → a ≡ b
 check-sheet-unique h p c a b = one-outcome

@@ -14,14 +14,18 @@ ghost use Rattle.spreads.specs.Cash.{cashCall};
 ghost use Rattle.sheets.specs.Verdicts.{verdictOf};
 ghost use Rattle.verdicts.specs.FileVerdicts.{fileVerdict};
 ghost use Rattle.verdicts.specs.TableText.{tableText};
-ghost use Rattle.usm_c.specs.Answers.{dueWords, verdictWords, writingWords, tableWords};
-ghost use Rattle.usm_c.specs.Outcomes.{marginsWords, marginsLeft, worksheetWords, strikesLeft, netsLeft, readWords, tableLeft, originLeft, writeAs, outLeft, movedLeft, playWords, resultLeft, indicesLeft, numbersLeft, fileLine, markWords, placementLeft, importWords, importLeft, exportWords, exportLeft, salvageWords, soundLeft, droppedLeft, reasonsLeft};
+ghost use Rattle.usm_c.specs.Answers.{dueWords, verdictWords, writingWords, tableWords, requiredWords};
+ghost use Rattle.usm_c.specs.Outcomes.{marginsWords, marginsLeft, worksheetWords, strikesLeft, netsLeft, readWords, tableLeft, originLeft, writeAs, outLeft, movedLeft, playWords, resultLeft, indicesLeft, numbersLeft, fileLine, markWords, placementLeft, importWords, importLeft, exportWords, exportLeft, salvageWords, soundLeft, droppedLeft, reasonsLeft, position, singleAs, pairAs};
 
 mod origins;
+mod positions;
 mod words;
 
+use binaries::Position;
 use origins::put_origin;
 use origins::write_as;
+use positions::pair_as;
+use positions::single_as;
 use verdicts::LINE_BYTES;
 use verdicts::TABLE_BYTES;
 use words::due_words;
@@ -31,6 +35,7 @@ use words::listed_words;
 use words::marked_words;
 use words::played_words;
 use words::reading_words;
+use words::required_words;
 use words::salvaged_words;
 use words::table_words;
 use words::verdict_words;
@@ -222,6 +227,53 @@ pub extern "C" fn usm_salvage(
     ensures { λ _. ⌜ now (numbers .exit) ≡ reasonsLeft (now (bytes .entry)) (now (out .entry)) (now (indices .entry)) (now (numbers .entry)) ⌝ }
 {
     *answer = salvaged_words(salvage::salvage(bytes, out, indices, numbers));
+}
+
+// The margin of a position in a credit event binary option, side 1 long or 2 short.
+#[no_mangle]
+pub extern "C" fn usm_binary_margin(
+    side: u64,
+    spread: u64,
+    valuation: u64,
+    expiry: u64,
+    contracts: u64,
+    answer: &mut [u64; 4],
+)
+    ensures { λ _. ⌜ now (answer .exit) ≡ requiredWords (singleAs side spread valuation expiry contracts) ⌝ }
+{
+    *answer = required_words(single_as(side, spread, valuation, expiry, contracts));
+}
+
+// The margin of a long and a short position in them together, the long paid in full, 1, or not, 0.
+#[no_mangle]
+pub extern "C" fn usm_binary_pair(
+    valuation: u64,
+    long_reference: u64,
+    long_spread: u64,
+    long_expiry: u64,
+    long_contracts: u64,
+    long_paid: u64,
+    short_reference: u64,
+    short_spread: u64,
+    short_expiry: u64,
+    short_contracts: u64,
+    answer: &mut [u64; 4],
+)
+    ensures { λ _. ⌜ now (answer .exit) ≡ requiredWords (pairAs valuation (position «long_reference» «long_spread» «long_expiry» «long_contracts») «long_paid» (position «short_reference» «short_spread» «short_expiry» «short_contracts»)) ⌝ }
+{
+    let long = Position {
+        reference: long_reference,
+        spread: long_spread,
+        expiry: long_expiry,
+        contracts: long_contracts,
+    };
+    let short = Position {
+        reference: short_reference,
+        spread: short_spread,
+        expiry: short_expiry,
+        contracts: short_contracts,
+    };
+    *answer = required_words(pair_as(valuation, long, long_paid, short));
 }
 
 // The line that is printed for a sheet file; the answer is its length.

@@ -1,6 +1,7 @@
 // The four words of each kind of answer.
 ghost use mathlib.Core.Path.{_≡_};
-ghost use Rattle.usm_c.specs.Answers.{doneWords, refusedWords, countedWords, dueWords, listedWords, verdictWords, readingWords, writingWords, markedWords, playedWords, importedWords, exportedWords, tableWords, DueMills, VerdictMills, salvagedWords};
+ghost use Rattle.usm_c.specs.Answers.{doneWords, refusedWords, countedWords, dueWords, listedWords, verdictWords, readingWords, writingWords, markedWords, playedWords, importedWords, exportedWords, tableWords, DueMills, VerdictMills, salvagedWords, requiredWords, RequiredMills};
+use binaries::Required;
 use blocks::Reading;
 use blocks::Writing;
 use fills::Played;
@@ -44,6 +45,16 @@ pub(crate) fn due_words(due: Due) -> [u64; 4]
     match due {
         Due::Mills(mills) => done(mills as u64, 0, 0),
         Due::Refused(refusal) => refused(refusal),
+    }
+}
+
+pub(crate) fn required_words(required: Required) -> [u64; 4]
+    requires { ⌜ RequiredMills required ⌝ }
+    ensures { λ r. ⌜ r ≡ requiredWords required ⌝ }
+{
+    match required {
+        Required::Mills(mills) => done(mills as u64, 0, 0),
+        Required::Refused(refusal) => refused(refusal),
     }
 }
 

@@ -4,6 +4,7 @@
 //! against each other, and the benchmark runs them side by side. Its calls have the
 //! same signatures as the wrapper's at the top of this package.
 
+mod binaries;
 mod boxes;
 mod file;
 mod fills;
@@ -169,6 +170,9 @@ pub use symbols::{export, import};
 
 /// Makes a sound file of what is whole in a damaged one; lists what is dropped.
 pub use salvage::salvage;
+
+/// Credit event binaries: one position, and a long beside a short.
+pub use binaries::{margin as binary_margin, pair as binary_pair};
 
 /// The line `usm_check` prints for this file.
 pub fn file_line(file: &[u8]) -> String {

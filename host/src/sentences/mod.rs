@@ -1,6 +1,7 @@
 //! Refusals in sentences that say what a clerk needs: the record's own text and its place as people
 //! count, the field that is out of range, the amounts on each side.
 
+mod binaries;
 mod blocks;
 mod boxes;
 mod fields;
@@ -18,6 +19,7 @@ use crate::reason::Reason;
 use crate::refusal::Refusal;
 use crate::sheet::Sheet;
 
+pub use binaries::{of_binary, of_pair};
 pub use boxes::of_box;
 pub use fills::of_fills;
 pub use moves::of_move;

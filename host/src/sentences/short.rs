@@ -1,5 +1,6 @@
 //! The sentence of a refusal by itself, where neither file nor sheet is at hand.
 
+use super::binaries;
 use crate::numbers::ordinal;
 use crate::reason::Reason;
 use crate::records::{FILLS_TABLE, LIST_TABLE, ROOTS_TABLE};
@@ -23,6 +24,9 @@ pub fn short(refusal: &Refusal, reason: Reason) -> String {
             "the {place} block is out of form: its header, its unused bytes, its place among \
              the kinds, or a table that grows past its limit"
         ),
+        // Of all that have fields only credit event binaries stand in no table.
+        Reason::FieldOutOfRange if refusal.table == 0 => binaries::short(refusal.place, reason),
+        Reason::ExpiryBeforeValuation => binaries::short(refusal.place, reason),
         Reason::FieldOutOfRange => format!("{record} has a field out of range"),
         Reason::GroupsMisnumbered if refusal.table == 3 => {
             format!("the {place} claim is not for group {}", refusal.place.saturating_add(1))

@@ -23,6 +23,8 @@ pub use parse::parse;
 pub(crate) use roots::terms_text;
 pub use roots::{parse_roots, show_roots};
 pub use show::{show, show_holdings};
+#[doc(hidden)]
+pub use words::digits;
 
 /// The text format, as the help of `usm_sheet` prints it.
 pub const FORMAT: &str = "\

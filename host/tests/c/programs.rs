@@ -34,6 +34,9 @@ usm_import: refusal 24, table 6, place 0
 salvaged a file of 1024 bytes
 block 1 dropped: 2
 usm_salvage: refusal 2, table 0, place 0
+ten binaries short: margin 700000
+with eight long beside them: margin 140000
+usm_binary_margin: refusal 25, table 0, place 0
 usm_margin: refusal 6, table 2, place 3
 usm_check_sheet: refusal 16, table 3, place 2
 usm_write_file: refusal 1, table 0, place 0

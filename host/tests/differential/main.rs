@@ -6,6 +6,7 @@
 
 #![forbid(unsafe_code)]
 
+mod binaries;
 mod boxes;
 mod cases;
 mod cash;
@@ -152,6 +153,22 @@ fn lists_out() {
         }
         tally.count(compare::export(case, &world.roots, &world.holdings, random.room(needed)));
         laws::holdings_go_round(case, &world.roots, &world.holdings);
+    });
+}
+
+/// Credit event binaries, one and in pairs.
+#[test]
+fn credit_event_binaries() {
+    run("credit_event_binaries", 20, &[0, 4, 25], |case, random, tally| {
+        let given = binaries::any(random);
+        let long = given.long;
+        let numbers = [given.side, long.spread, given.valuation, long.expiry, long.contracts];
+        tally.count(binaries::margin(case, numbers));
+        tally.count(binaries::pair(case, &given));
+        binaries::answers_alike(case, &given);
+        binaries::laws::a_short_needs_twice_what_a_long_does(case, &given);
+        binaries::laws::margins_grow(case, random, &given);
+        binaries::laws::a_pair_never_needs_more_than_apart(case, &given);
     });
 }
 

@@ -3,6 +3,7 @@
 
 #![forbid(unsafe_code)]
 
+mod binaries;
 mod fields;
 mod files;
 mod fills;
@@ -92,8 +93,8 @@ fn cases() -> Vec<Case> {
 #[test]
 fn every_sentence_is_that_of_the_table() {
     let of_calls = [of_groups(), of_cash()].concat();
-    let of_others = [fills::sentences(), symbols::sentences(), salvage::sentences()].join("\n");
-    let found = [short(), of_files(&cases()), of_calls, of_others].join("\n");
+    let of_others = [fills::sentences(), symbols::sentences(), salvage::sentences(), binaries::sentences()];
+    let found = [short(), of_files(&cases()), of_calls, of_others.join("\n")].join("\n");
     let table = Path::new(env!("CARGO_MANIFEST_DIR")).join("tests/sentences/sentences.txt");
     if std::env::var_os("USM_WRITE_SENTENCES").is_some() {
         fs::write(&table, &found).expect("the table is written");
@@ -117,6 +118,7 @@ fn every_reason_that_a_file_can_have_is_in_the_table() {
         Reason::LineMalformed,
         Reason::RootsIllFormed,
         Reason::NotInRoots,
+        Reason::ExpiryBeforeValuation,
     ];
     let reasons = Reason::ALL.into_iter().filter(|reason| !of_other_calls.contains(reason));
     assert_eq!(numbers, reasons.map(Reason::number).collect());
@@ -126,7 +128,7 @@ fn every_reason_that_a_file_can_have_is_in_the_table() {
 fn a_refusal_of_something_else_has_its_own_sentence() {
     // Nothing of what these name is in the file, or they are none of a file's refusals.
     let file = sheets::accepted().to_file().expect("a file");
-    for number in 0..=25 {
+    for number in 0..=26 {
         for table in 0..=7 {
             for place in [0, 1, 39, u64::MAX] {
                 let refusal = Refusal::new(number, table, place);

@@ -5,6 +5,7 @@
 #[path = "../common/mod.rs"]
 mod common;
 
+mod binaries;
 mod check;
 mod full;
 mod groups;

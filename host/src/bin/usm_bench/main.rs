@@ -7,6 +7,7 @@
 
 #![forbid(unsafe_code)]
 
+mod binaries;
 mod crafted;
 mod fills;
 mod inputs;

@@ -7,6 +7,7 @@ use usm::{
     MOST_CLAIMS, MOST_FILLS, MOST_LEGS,
 };
 
+use crate::binaries::{cells, pairs, VALUED};
 use crate::crafted;
 use crate::fills::{crowded, day, held};
 use crate::inputs::{long_box, sheet, typical_sheets};
@@ -166,6 +167,28 @@ fn salvage(name: &'static str, bytes: &[u8]) -> Row {
     })
 }
 
+/// The cells come up in turn, so that no side learns the answer by heart.
+fn binary_margin(name: &'static str) -> Row {
+    row(name, |calls| {
+        let mut turns = cells().into_iter().cycle();
+        move || {
+            let (side, of) = turns.next().expect("it never ends");
+            let margin = (calls.binary_margin)(side, of.spread, VALUED, of.expiry, of.contracts);
+            folded(margin, |margin| margin as u64)
+        }
+    })
+}
+
+fn binary_pair(name: &'static str) -> Row {
+    row(name, |calls| {
+        let mut turns = pairs().into_iter().cycle();
+        move || {
+            let (long, short) = turns.next().expect("it never ends");
+            folded((calls.binary_pair)(VALUED, long, short), |margin| margin as u64)
+        }
+    })
+}
+
 fn file_of(sheet: &Sheet) -> Vec<u8> {
     sheet.to_file().expect("a sheet to be timed can be written")
 }
@@ -249,6 +272,8 @@ fn ordinary() -> Vec<Row> {
         mark_paid("mark 256 unplaced longs as paid", &held(MOST_LEGS)),
         play_fills("play 60 fills over 60 records", &held(60), &day(60, 60)),
         play_fills("play 1,024 fills over 256 records", &held(MOST_LEGS), &day(MOST_LEGS, MOST_FILLS)),
+        binary_margin("margin of a binary, 40 cells in turn"),
+        binary_pair("pair of binaries, 40 in turn"),
     ]
 }
 

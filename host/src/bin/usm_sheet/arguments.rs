@@ -11,6 +11,7 @@ pub struct Arguments {
     pub files: Vec<OsString>,
     pub force: bool,
     pub json: bool,
+    pub table: bool,
     pub help: bool,
     pub version: bool,
 }
@@ -26,6 +27,7 @@ impl Arguments {
                 Some("--") => names.extend(words.by_ref()),
                 Some("--force") => arguments.force = true,
                 Some("--json") => arguments.json = true,
+                Some("--table") => arguments.table = true,
                 Some("-h" | "--help") => arguments.help = true,
                 Some("-V" | "--version") => arguments.version = true,
                 Some(option) if option.len() > 1 && option.starts_with('-') => {

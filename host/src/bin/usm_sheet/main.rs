@@ -4,6 +4,7 @@
 #![forbid(unsafe_code)]
 
 mod arguments;
+mod binaries;
 mod check;
 mod groups;
 mod input;
@@ -17,12 +18,13 @@ mod play;
 mod plot;
 mod salvage;
 mod symbols;
+mod words;
 
 use std::ffi::OsString;
 use std::process::ExitCode;
 
 use arguments::Arguments;
-use output::Output;
+use output::print;
 use usm::{program, text};
 
 const USAGE: &str = "\
@@ -47,6 +49,13 @@ usage:
                                   a sheet file [--force]
   sheet export ROOTS FILE OUT     write the holdings of a sheet file, or of a sheet's text, as a
                                   list of option symbols [--force]
+  sheet binary long|short spread BASIS-POINTS valued DATE expires DATE contracts COUNT
+                                  tell the margin of a position in credit event binaries
+  sheet binary --table            print the tables that it comes from
+  sheet pair valued DATE long REFERENCE spread .. expires .. contracts .. [paid]
+                         short REFERENCE spread .. expires .. contracts ..
+                                  tell the margin of a long and a short beside each other,
+                                  each with the number of its reference obligation
   sheet help                      tell about the text formats too (-h, --help)
   sheet --version                 print the version
 
@@ -55,8 +64,9 @@ options. An OUT that is there already is left alone unless --force is given. `ch
 the line of each file on standard output, behind its name if there are several, and
 sentences for people on standard error; with --json it prints one object a file instead. The
 exit status is 0 if all is well; 1 if `check` refuses a file, `play` a fill, `import` a list
-or `export` holdings, `salvage` drops a block, or a group of `margins` or `worksheet` is no
-spread, or one of `cash` not fit for it; 2 if something could not be done.
+or `export` holdings, `salvage` drops a block, a group of `margins` or `worksheet` is no
+spread, or one of `cash` not fit for it, or the numbers of `binary` or `pair` are refused; 2
+if something could not be done.
 ";
 
 fn main() -> ExitCode {
@@ -71,8 +81,14 @@ fn run(words: Vec<OsString>) -> Result<ExitCode, String> {
     if arguments.version {
         return print(concat!("sheet ", env!("CARGO_PKG_VERSION"), "\n"));
     }
-    let Arguments { force, json, .. } = arguments;
+    let Arguments { force, json, table, .. } = arguments;
     let files = arguments.files.as_slice();
+    if table {
+        return match (arguments.command.as_str(), files, force, json) {
+            ("binary", [], false, false) => binaries::tables(),
+            _ => Err(no_command()),
+        };
+    }
     match (arguments.command.as_str(), files, force, json) {
         ("make", [text, out], force, false) => make::make(text, out, force),
         ("show", [file], false, false) => make::show(file),
@@ -87,8 +103,10 @@ fn run(words: Vec<OsString>) -> Result<ExitCode, String> {
         ("import", [roots, list, out], force, false) => symbols::import(roots, list, out, force),
         ("export", [roots, file, out], force, false) => symbols::export(roots, file, out, force),
         ("salvage", [file, out], force, false) => salvage::salvage(file, out, force),
+        ("binary", words, false, false) => binaries::binary(words),
+        ("pair", words, false, false) => binaries::pair(words),
         ("help", [], false, false) => help(),
-        _ => Err(not_understood(String::from("the command was not understood"))),
+        _ => Err(no_command()),
     }
 }
 
@@ -97,13 +115,10 @@ fn help() -> Result<ExitCode, String> {
     print(&format!("{USAGE}\n{}", formats.join("\n")))
 }
 
-fn not_understood(what: String) -> String {
-    format!("{what}; `sheet help` shows the commands")
+fn no_command() -> String {
+    not_understood(String::from("the command was not understood"))
 }
 
-fn print(text: &str) -> Result<ExitCode, String> {
-    let mut output = Output::new();
-    output.print(text.as_bytes())?;
-    output.end()?;
-    Ok(ExitCode::SUCCESS)
+fn not_understood(what: String) -> String {
+    format!("{what}; `sheet help` shows the commands")
 }

@@ -1,11 +1,20 @@
 //! Standard output, gathered, and standard error in step with it. What could not be written is an error.
 
 use std::io::{self, BufWriter, StdoutLock, Write};
+use std::process::ExitCode;
 
 use usm::program;
 
 pub struct Output {
     out: BufWriter<StdoutLock<'static>>,
+}
+
+/// Prints a text that is all there is to say.
+pub fn print(text: &str) -> Result<ExitCode, String> {
+    let mut output = Output::new();
+    output.print(text.as_bytes())?;
+    output.end()?;
+    Ok(ExitCode::SUCCESS)
 }
 
 fn failed(error: io::Error) -> String {
