@@ -54,7 +54,8 @@ static int accepted(const char *call, const uint64_t *answer)
 {
     if (refused(call, answer))
         return 0;
-    printf("%s: accepted, groups %" PRIu64 ", total %" PRIu64 " mills\n", call, answer[1], answer[2]);
+    printf("%s: accepted, groups %" PRIu64 ", total %" PRIu64 " mills, work %" PRIu64 "\n", call, answer[1], answer[2],
+           answer[3]);
     return 1;
 }
 

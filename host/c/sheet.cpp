@@ -86,7 +86,7 @@ static bool answers_stay_apart(const Bytes &holdings, const Bytes &placement)
             Bytes claims;
             add_claim(claims, 1, mills);
             const Answer refused{USM_CLAIM_NOT_MARGIN, USM_CLAIMS, 1, 0};
-            const Answer due = mills == 1000000 ? Answer{0, 1, mills, 0} : refused;
+            const Answer due = mills == 1000000 ? Answer{0, 1, mills, 4} : refused;
             for (int call = 0; call < 2000; call++)
                 if (check(holdings, placement, claims) != due)
                     apart = false;

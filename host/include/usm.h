@@ -310,7 +310,9 @@ void usm_mark_paid(uint8_t *placement, size_t placement_len, uint64_t *answer);
 
 /*
  * The verdict on a sheet given as three tables.
- *   success  { 0, groups, total margin, 0 }: the sheet is accepted
+ *   success  { 0, groups, total margin, work }: the sheet is accepted. The work is how many intrinsic
+ *            values were worked out: for each group its legs times its distinct strikes, added over
+ *            the groups, and at most 65,536. A refused sheet has 0 there, as every refusal has.
  *   refusals 1 for any of the three tables; 4 by table (holdings, placement, claims), then
  *            record; 5, claims first; 6 to 13, groups ascending; 14; 15; 16.
  * Three empty tables are accepted with no group.
@@ -321,7 +323,7 @@ void usm_check_sheet(const uint8_t *holdings, size_t holdings_len,
 
 /*
  * The verdict on a sheet file of either form.
- *   success  { 0, groups, total margin, 0 }: the sheet is accepted
+ *   success  { 0, groups, total margin, work }: the sheet is accepted; the work as usm_check_sheet
  *   refusals 1 about the file; 2, 3 and 20 in each block, in this order, blocks in file order;
  *            then 4 to 16 as usm_check_sheet. A block of another form than the first is 3.
  */

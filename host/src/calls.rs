@@ -95,7 +95,7 @@ pub fn mark_paid(placement: &mut [u8]) -> Result<usize, Refusal> {
 ///
 /// ```
 /// use usm::{check_sheet, Accepted};
-/// assert_eq!(check_sheet(&[], &[], &[]), Ok(Accepted { groups: 0, total: 0 }));
+/// assert_eq!(check_sheet(&[], &[], &[]), Ok(Accepted { groups: 0, total: 0, work: 0 }));
 /// ```
 pub fn check_sheet(holdings: &[u8], placement: &[u8], claims: &[u8]) -> Result<Accepted, Refusal> {
     ask(|answer| ffi::check_sheet(holdings, placement, claims, answer)).map(accepted)
@@ -309,6 +309,6 @@ pub fn file_table(file: &[u8]) -> String {
     String::from_utf8_lossy(&text[..length]).into_owned()
 }
 
-fn accepted([groups, total, _]: [u64; 3]) -> Accepted {
-    Accepted { groups, total: total as i64 }
+fn accepted([groups, total, work]: [u64; 3]) -> Accepted {
+    Accepted { groups, total: total as i64, work }
 }

@@ -64,7 +64,7 @@ pub use records::{
     is_expiry, padded_root, Action, Claim, Fill, Leg, Line, Market, OptionType, Root, Series, Settlement,
     Side, Style, Table, FILLS_TABLE, GREATEST_AMOUNT, GREATEST_STRIKE, GREATEST_UNIT_SIZE, LIST_TABLE,
     LONGEST_LINE, LONGEST_LIST, MOST_CLAIMS, MOST_CONTRACTS, MOST_FILLS, MOST_LEGS, MOST_LINES, MOST_ROOTS,
-    RECORD_BYTES, ROOTS_TABLE, ROOT_BYTES, ROOT_NAME_BYTES,
+    MOST_WORK, RECORD_BYTES, ROOTS_TABLE, ROOT_BYTES, ROOT_NAME_BYTES,
 };
 pub use refusal::{Accepted, PlayCounts, RecordCounts, Refusal, SalvageCounts};
 pub use salvage::{salvage_file, Dropped, Salvaged};

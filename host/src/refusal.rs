@@ -6,13 +6,16 @@ use std::fmt;
 use crate::reason::Reason;
 use crate::sentences;
 
-/// An accepted sheet: claims 1 to `groups`, and the sum of their margins.
+/// An accepted sheet: claims 1 to `groups`, the sum of their margins, and the work that these were.
 #[derive(Clone, Copy, Debug, PartialEq, Eq)]
 pub struct Accepted {
     /// How many groups there are.
     pub groups: u64,
     /// The sum of their margins, in mills.
     pub total: i64,
+    /// How many intrinsic values were worked out for them: one for each leg of a group and each distinct strike of
+    /// that group.
+    pub work: u64,
 }
 
 /// How many records of each kind a file holds.
@@ -77,7 +80,7 @@ impl Refusal {
 }
 
 impl Accepted {
-    /// The line `ACCEPT groups total` with its newline.
+    /// The line `ACCEPT groups total` with its newline; it does not tell the work.
     pub fn line(&self) -> String {
         format!("ACCEPT {} {}\n", self.groups, self.total)
     }
@@ -101,7 +104,7 @@ mod tests {
     #[test]
     fn lines_are_those_of_document_01() {
         assert_eq!(Refusal::new(16, 3, 2).line(), "REFUSE 16 3 2\n");
-        assert_eq!(Accepted { groups: 2, total: 1_500_000 }.line(), "ACCEPT 2 1500000\n");
+        assert_eq!(Accepted { groups: 2, total: 1_500_000, work: 8 }.line(), "ACCEPT 2 1500000\n");
         assert_eq!(Refusal::new(99, 1, 2).to_string(), "refusal 99, table 1, place 2");
     }
 }

@@ -34,7 +34,7 @@ use crate::refusal::{Accepted, Refusal};
 ///     placement: vec![long, short],
 ///     claims: vec![Claim { group: 1, margin: 1_000_000 }],
 /// };
-/// assert_eq!(sheet.check(), Ok(Accepted { groups: 1, total: 1_000_000 }));
+/// assert_eq!(sheet.check(), Ok(Accepted { groups: 1, total: 1_000_000, work: 4 }));
 /// assert_eq!(sheet.worksheet(1), Ok(vec![(50_000, 0), (60_000, -1_000_000)]));
 /// assert_eq!(Sheet::from_file(&sheet.to_file()?), Ok(sheet.clone()));
 ///

@@ -22,6 +22,8 @@ use Rattle.records.specs.declared.tables.Kind.the-variants.{Placement}
 use Rattle.records.proofs.ChunkLaws.{chunks-whole}
 use Rattle.records.proofs.ListLaws.{map-all}
 use Rattle.spreads.specs.Spreads.{groupOf}
+use Rattle.spreads.specs.Work.{valuesOf, workUpTo, workOf}
+use Rattle.spreads.proofs.GroupSums.{total-ext}
 use Rattle.sheets.specs.Demands.{PassMarks, PassTwice, PassSound}
 use Rattle.sheets.specs.Marks.{markedLeg, markedRecord, markedFirst, markedPlacement, markOn, marksIn}
 use Rattle.sheets.specs.Sheets.{unpaidLong, OldRule, SheetRule}
@@ -203,6 +205,12 @@ group-same g (l ∷ ls) h = rw (marked-group l, group-same g ls h) (go (eqb (l .
     go : (b : Bool) → eqb (l .group) g ≡ b → (rest : List Leg) → cond b (markedLeg l ∷ rest) rest ≡ cond b (l ∷ rest) rest
     go true q rest = ap (λ (t : Leg). t ∷ rest) (placed-stays l g h (eqb-true (l .group) g q))
     go false q rest = refl
+
+-- the groups cause the work that they caused
+pub work-marked : (legs : List Leg) → workOf (map markedLeg legs) ≡ workOf legs
+unfolding workOf workUpTo
+work-marked legs =
+    total-ext 32 (λ g. valuesOf (groupOf g (map markedLeg legs))) (λ g. valuesOf (groupOf g legs)) (λ g a b. ap valuesOf (group-same g legs a))
 
 contracts-one : (x y : Leg) → only (sameLineSide x (markedLeg y)) (markedLeg y .contracts .0) ≡ only (sameLineSide x y) (y .contracts .0)
 unfolding withPaid sameLineSide

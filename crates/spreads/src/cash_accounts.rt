@@ -68,7 +68,7 @@ fn members_cash(placement: &[u8], g: usize, members: &[u16]) -> Due
     ensures { λ r. ⌜ r ≡ dueAnswer (firstOf (ask (isFit (legsAt (now (placement .entry)) (now (members .entry)))) 21 2 g ∷ [])) (worstLoss (legsAt (now (placement .entry)) (now (members .entry)))) ⌝ }
 {
     if fit_for_cash(placement, members) {
-        return Due::Mills(required_of(false, placement, members) as i64);
+        return Due::Mills(required_of(false, placement, members).mills as i64);
     }
     Due::Refused(Refusal {
         number: 21,

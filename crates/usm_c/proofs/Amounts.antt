@@ -41,9 +41,9 @@ due-mills : (fault : Fault) (mills : ℕ) → DueMills (dueAnswer fault mills)
 due-mills Nothing mills = refl
 due-mills (Is r) mills = tt
 
-verdict-mills : (fault : Fault) (n total : ℕ) → VerdictMills (verdictIn fault n total)
-verdict-mills Nothing n total = refl
-verdict-mills (Is r) n total = tt
+verdict-mills : (fault : Fault) (n total work : ℕ) → VerdictMills (verdictIn fault n total work)
+verdict-mills Nothing n total work = refl
+verdict-mills (Is r) n total work = tt
 
 after-mills : (fault : Fault) (v : Verdict) → VerdictMills v → VerdictMills (afterReading fault v)
 after-mills Nothing v h = h
@@ -59,7 +59,7 @@ cash-mills placement g = due-mills (firstOf (tableChecks Placement placement ++ 
 
 pub sheet-mills : (h p c : List ℕ) → VerdictMills (verdictOf h p c)
 unfolding verdictOf
-sheet-mills h p c = verdict-mills (firstOf (sheetChecks h p c)) _ _
+sheet-mills h p c = verdict-mills (firstOf (sheetChecks h p c)) _ _ _
 
 pub file-mills : (file : List ℕ) → VerdictMills (fileVerdict file)
 unfolding fileVerdict

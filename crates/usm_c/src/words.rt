@@ -72,7 +72,9 @@ pub(crate) fn verdict_words(verdict: Verdict) -> [u64; 4]
     ensures { λ r. ⌜ r ≡ verdictWords verdict ⌝ }
 {
     match verdict {
-        Verdict::Accepted(groups, total) => done(groups as u64, total as u64, 0),
+        Verdict::Accepted(groups, total, values) => {
+            done(groups as u64, total as u64, values as u64)
+        }
         Verdict::Refused(refusal) => refused(refusal),
     }
 }

@@ -15,10 +15,12 @@ use Rattle.blocks.proofs.Accounts.{moved-alike}
 use Rattle.spreads.specs.Spreads.{groupOf}
 use Rattle.spreads.specs.Strikes.{lossOf}
 use Rattle.spreads.specs.Boxes.{LongBox, halfOf, marginOf}
+use Rattle.spreads.specs.Work.{total}
+use Rattle.spreads.proofs.GroupSums.{total-ext}
 use Rattle.spreads.proofs.Nets.{margin-nets}
 use Rattle.spreads.proofs.BoxLaws.{no-box-test, box-margin, other-margin}
 use Rattle.sheets.specs.Sheets.{claimFor, totalOf}
-use Rattle.sheets.proofs.Groups.{total, total-ext, total-claims}
+use Rattle.sheets.proofs.Groups.{total-claims}
 use Rattle.verdicts.specs.TableText.{shownOf, shownIn, tableText}
 use Rattle.verdicts.specs.TableDemands.{TableReadsBack, TableTotal, TableMargins, TableBoxes, MovedTable, RefusedPrints}
 use Rattle.verdicts.proofs.Demands.{file-just, moved-verdict}
@@ -52,17 +54,17 @@ module _ (placement : List Leg) where
 
 pub table-reads-back : TableReadsBack
 unfolding tableText
-table-reads-back file n total e =
+table-reads-back file n total work e =
     let p = legsOf (tablesIn file .placement) in
     rw e (table-read (shownIn n p) (shown-even p n))
 
 pub table-total : TableTotal
-table-total file n amount e =
-    let k = file-just file n (pos amount) .0 e in
+table-total file n amount work e =
+    let k = file-just file n (pos amount) work .0 e in
     let p = legsOf (tablesIn file .placement) in
     let c = claimsOf (tablesIn file .claims) in
     let a : amount ≡ totalOf c = cc (k .3) in
-    rw (table-reads-back file n (pos amount) e)
+    rw (table-reads-back file n (pos amount) work e)
     (omega (
       arith,
       shown-total p n,
@@ -72,10 +74,10 @@ table-total file n amount e =
     ))
 
 pub table-margins : TableMargins
-table-margins file n total e = rw (table-reads-back file n (pos total) e) (shown-margins (legsOf (tablesIn file .placement)) n)
+table-margins file n total work e = rw (table-reads-back file n (pos total) work e) (shown-margins (legsOf (tablesIn file .placement)) n)
 
 pub table-boxes : TableBoxes
-table-boxes file n total e = rw (table-reads-back file n (pos total) e) (shown-boxes (legsOf (tablesIn file .placement)) n)
+table-boxes file n total work e = rw (table-reads-back file n (pos total) work e) (shown-boxes (legsOf (tablesIn file .placement)) n)
 
 pub moved-table : MovedTable
 unfolding tableText

@@ -24,13 +24,13 @@ module _ (file : List ℕ) where
   unfolding tableText
   refused-text r e = rw e
 
-  module _ (n : ℕ) (total : ℤ) (e : fileVerdict file ≡ Accepted n total) where
+  module _ (n : ℕ) (total : ℤ) (work : ℕ) (e : fileVerdict file ≡ Accepted n total work) where
     pub accepted-text : shownText (shownIn (length (tablesIn file .claims) / 32) (legsOf (tablesIn file .placement))) ≡ tableText file
     unfolding tableText
-    accepted-text = rw (e, file-just file n total .0 e .2, length-claims (tablesIn file .claims))
+    accepted-text = rw (e, file-just file n total work .0 e .2, length-claims (tablesIn file .claims))
 
     pub accepted-shown : ShownBy (tablesIn file .placement) (tablesIn file .claims)
-    accepted-shown = (tablesIn file .holdings, file-just file n total .0 e .1)
+    accepted-shown = (tablesIn file .holdings, file-just file n total work .0 e .1)
 
   -- the records of a kind in a lent table
   pub copied-front : (kind : Kind) (m : ℕ) (d l : List ℕ) → l ≡ copied kind file d → m ≡ length (tableOf kind (tablesIn file)) → m ≤ length d

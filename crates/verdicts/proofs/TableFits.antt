@@ -15,15 +15,14 @@ use Rattle.records.proofs.Measures.{only-le, sum-bound}
 use Rattle.spreads.specs.Prices.{net}
 use Rattle.spreads.specs.Spreads.{groupOf, groupIn}
 use Rattle.spreads.specs.Steps.{Checked, strikesEnd}
-use Rattle.spreads.specs.Strikes.{insert, strikesOf, netsOf}
+use Rattle.spreads.specs.Strikes.{strikesOf, netsOf}
 use Rattle.spreads.specs.Boxes.{marginOf}
+use Rattle.spreads.specs.Work.{total}
 use Rattle.spreads.proofs.Bounds.{sides-small, table-few, group-ranges, group-few}
 use Rattle.spreads.proofs.BoxBounds.{margin-small}
-use Rattle.spreads.proofs.Inserting.{inserting}
-use Rattle.spreads.proofs.Inserting as inserted
+use Rattle.spreads.proofs.GroupSums.{legs-in-groups}
 use Rattle.spreads.proofs.Signed.{abs-minus}
-use Rattle.spreads.proofs.StrikeLaws.{strikes-small}
-use Rattle.sheets.proofs.Groups.{total, total-ext, by-group-upto}
+use Rattle.spreads.proofs.StrikeLaws.{strikes-small, strikes-count}
 use Rattle.verdicts.specs.Printed.{amountOf}
 use Rattle.verdicts.specs.TableText.{shownOf, shownIn, groupLine, strikeLine, strikeLines, groupText, shownText}
 use Rattle.verdicts.proofs.DecimalLaws.{decimal-short}
@@ -58,39 +57,7 @@ strike-lines-short (s ∷ ss) (n ∷ ns) a b =
       strike-lines-short ss ns (a .1) (b .1),
     )
 
-insert-count : (k : ℕ) (xs : List ℕ) → length (insert k xs) ≤ suc (length xs)
-unfolding insert
-insert-count k [] = omega arith
-insert-count k (x ∷ xs) =
-    elim (inserting k x xs) [
-      | inserted.before h e ↦ rw e (omega arith)
-      | inserted.behind h e ↦ rw e (omega (arith, insert-count k xs))
-      | inserted.there h e ↦ rw e (omega arith)
-    ]
-
--- no more strikes than legs
-pub strikes-count : (legs : List Leg) → length (strikesOf legs) ≤ length legs
-unfolding strikesOf
-strikes-count [] = omega arith
-strikes-count (l ∷ ls) = omega (arith, insert-count (l .strike) (strikesOf ls), strikes-count ls)
-
 -- ---- the groups of a placement
-
-sum-ones : (legs : List Leg) → length legs ≡ sumOf (λ l. 1) legs
-unfolding sumOf
-sum-ones [] = refl
-sum-ones (l ∷ ls) = omega (arith, sum-ones ls)
-
--- no more legs in groups 1 to n than there are
-legs-in-groups : (legs : List Leg) (n : ℕ) → total n (λ g. length (groupOf g legs)) ≤ length legs
-unfolding groupOf
-legs-in-groups legs n =
-    omega (
-      arith,
-      total-ext n (λ g. length (groupOf g legs)) (λ g. sumOf (λ l. 1) (groupOf g legs)) (λ g a b. sum-ones (groupOf g legs)),
-      by-group-upto (λ l. 1) (λ l. l .group) legs n,
-      sum-bound (λ l. only (leb (l .group) n) 1) 1 legs (every legs (λ l. only-le (leb (l .group) n) 1)),
-    )
 
 module _ (xs : List ℕ) (p : Checked xs) where
   net-within : (g k : ℕ) → k < strikesEnd → natAbs (net (groupIn xs g) k) ≤ mostMills

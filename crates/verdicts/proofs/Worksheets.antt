@@ -21,7 +21,7 @@ use Rattle.spreads.specs.declared.calls.Listed.the-variants.{Entries, Refused}
 use Rattle.spreads.proofs.Answers.{list-in}
 use Rattle.spreads.proofs.Bounds.{group-few}
 use Rattle.verdicts.specs.Steps.{Answered}
-use Rattle.verdicts.proofs.TableFits.{strikes-count}
+use Rattle.spreads.proofs.StrikeLaws.{strikes-count}
 
 module _ (xs : List ℕ) (g : ℕ) (a : Answered xs g) where
   answered-checked : Checked xs

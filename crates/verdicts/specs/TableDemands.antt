@@ -25,22 +25,22 @@ use Rattle.verdicts.specs.TableText.{shownIn, tableText}
 
 -- numbers printed read back: from the text of an accepted sheet each group, margin, strike and net is read, in order
 abbrev pub TableReadsBack : Type 0
-TableReadsBack = (file : List ℕ) (n : ℕ) (total : ℤ) → fileVerdict file ≡ Accepted n total
+TableReadsBack = (file : List ℕ) (n : ℕ) (total : ℤ) (work : ℕ) → fileVerdict file ≡ Accepted n total work
     → tableIn (tableText file) ≡ shownIn n (legsOf (tablesIn file .placement))
 
 -- 'a line `GROUP g margin`': the margins in the text of an accepted sheet add up to the verdict's total
 abbrev pub TableTotal : Type 0
-TableTotal = (file : List ℕ) (n total : ℕ) → fileVerdict file ≡ Accepted n (pos total) → sumOf (λ s. s .margin) (tableIn (tableText file)) ≡ total
+TableTotal = (file : List ℕ) (n total work : ℕ) → fileVerdict file ≡ Accepted n (pos total) work → sumOf (λ s. s .margin) (tableIn (tableText file)) ≡ total
 
 -- 'then a line `strike net` for each distinct strike': the margin of a group that is no long box is the greatest of 0 and the
 -- losses of the lines under it
 abbrev pub TableMargins : Type 0
-TableMargins = (file : List ℕ) (n total : ℕ) → fileVerdict file ≡ Accepted n (pos total)
+TableMargins = (file : List ℕ) (n total work : ℕ) → fileVerdict file ≡ Accepted n (pos total) work
     → All (λ s. ¬ LongBox (groupIn (tablesIn file .placement) (s .group)) → s .margin ≡ most lossOf (s .nets)) (tableIn (tableText file))
 
 -- document 02, [2]: that of a long box is 'half of units times the difference, a half mill rounded up'
 abbrev pub TableBoxes : Type 0
-TableBoxes = (file : List ℕ) (n total : ℕ) → fileVerdict file ≡ Accepted n (pos total)
+TableBoxes = (file : List ℕ) (n total work : ℕ) → fileVerdict file ≡ Accepted n (pos total) work
     → All (λ s. (b : LongBox (groupIn (tablesIn file .placement) (s .group))) → s .margin ≡ halfOf (b .units) (b .low) (b .high)) (tableIn (tableText file))
 
 -- request [6]: a file that was moved prints what it printed

@@ -60,7 +60,7 @@ shownText (s ∷ rest) = groupText s ++ shownText rest
 
 -- the table of an accepted sheet, or 'only its REFUSE line'
 abbrev pub textOf : Verdict → List Leg → List ℕ
-textOf (Accepted n total) placement = shownText (shownIn n placement)
+textOf (Accepted n total work) placement = shownText (shownIn n placement)
 textOf (Refused r) placement = refuseLine r
 
 unfoldable pub tableText : List ℕ → List ℕ

@@ -148,7 +148,7 @@ fn read_table(counts: Counts, file: &[u8], out: &mut [u8; TABLE_BYTES]) -> usize
     let c = RECORD_BYTES * counts.claims;
     match check_copied(counts, file, &mut holdings, &mut placement, &mut claims) {
         Verdict::Refused(refusal) => refuse_line(refusal, out),
-        Verdict::Accepted(_, _) => put_groups(&placement[..p], &claims[..c], &mut holdings, out),
+        Verdict::Accepted(_, _, _) => put_groups(&placement[..p], &claims[..c], &mut holdings, out),
     }
 }
 

@@ -15,7 +15,8 @@ pub fn judge(sheet: &Records) -> Result<Accepted, Refusal> {
     check_sums(&sheet.holdings, &sheet.placement)?;
     check_shorts_are_placed(&sheet.placement)?;
     check_claims(&sheet.claims, &margins)?;
-    Ok(Accepted { groups, total: margins.iter().sum() })
+    let work = (1..=groups).map(|g| spread::work(&sheet.placement, g)).sum();
+    Ok(Accepted { groups, total: margins.iter().sum(), work })
 }
 
 /// Refusal 5: every claim first, then every placed record.

@@ -1,5 +1,7 @@
 //! "The rule of a spread": one group's legs, its worksheet and its margin.
 
+use std::collections::BTreeSet;
+
 use super::boxes;
 use crate::records::{Leg, OptionType, Settlement, Side, Style, Table, MOST_CLAIMS};
 use crate::refusal::Refusal;
@@ -115,6 +117,15 @@ pub fn cash(legs: &[Leg], g: u64) -> Result<i64, Refusal> {
     } else {
         Err(Refusal::new(21, Table::Placement.number(), g))
     }
+}
+
+/// "How much work a sheet may cause", document 02, [12]: one intrinsic value for each leg of group `g` and each
+/// distinct strike of it.
+pub fn work(placement: &[Leg], g: u64) -> u64 {
+    let strikes: Vec<u32> =
+        placement.iter().filter(|leg| u64::from(leg.group) == g).map(|leg| leg.strike).collect();
+    let distinct: BTreeSet<u32> = strikes.iter().copied().collect();
+    (strikes.len() * distinct.len()) as u64
 }
 
 /// The margins of groups 1 to `n`, or the refusal of the lowest that is no spread.

@@ -36,6 +36,9 @@ pub const LONGEST_LINE: usize = 31;
 pub const LONGEST_LIST: usize = MOST_LINES * LONGEST_LINE;
 /// No net, no margin and no accepted total passes this many mills.
 pub const GREATEST_AMOUNT: i64 = 2_560_000_000_000_000_000;
+/// No accepted sheet makes the check work out more intrinsic values than this: all legs in one group, no two of one
+/// strike.
+pub const MOST_WORK: u64 = 65_536;
 /// Greatest unit size of a leg.
 pub const GREATEST_UNIT_SIZE: u16 = 1_000;
 /// Greatest strike, in mills for one unit of the underlying.

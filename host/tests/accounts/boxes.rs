@@ -139,5 +139,8 @@ fn two_expiries_are_no_box() {
 fn a_box_beside_another_group_is_added_to_the_total() {
     let vertical = [times(1, "L60c"), times(1, "S50c")].map(|leg| Leg { group: 2, ..leg });
     let legs = [&long_box()[..], &vertical].concat();
-    assert_verdict(&placed(&legs, &[500_000, 1_000_000]), Ok(Accepted { groups: 2, total: 1_500_000 }));
+    assert_verdict(
+        &placed(&legs, &[500_000, 1_000_000]),
+        Ok(Accepted { groups: 2, total: 1_500_000, work: 8 + 4 }),
+    );
 }

@@ -99,7 +99,7 @@ fn a_group_may_mix_settlements_and_lines_may_not() {
         Leg { settlement: Settlement::Physical, ..leg("L60c") },
     ];
     let sheet = placed(&mixed, &[2_000_000]);
-    assert_verdict(&sheet, Ok(Accepted { groups: 1, total: 2_000_000 }));
+    assert_verdict(&sheet, Ok(Accepted { groups: 1, total: 2_000_000, work: 6 }));
     // The two longs are two lines: one may not stand for the other.
     let mut one_line = sheet.clone();
     one_line.holdings[0] = in_group(0, times(2, "L60c"));

@@ -7,7 +7,7 @@ use usm::{leg_table, Accepted, Leg, Origin, Refusal, Sheet, Side, Table};
 
 use crate::{assert_line, assert_margin, assert_verdict, refusal};
 
-const FREE: Accepted = Accepted { groups: 0, total: 0 };
+const FREE: Accepted = Accepted { groups: 0, total: 0, work: 0 };
 
 /// The verdict on a sheet of this one long, not placed and paid.
 #[track_caller]

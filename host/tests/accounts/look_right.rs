@@ -21,7 +21,7 @@ fn contracts_are_not_balanced_over_the_whole_group() {
 fn the_search_for_the_worst_net_starts_from_zero() {
     let long_box = [leg("L50c"), leg("S60c"), leg("L60p"), leg("S50p")];
     assert_margin(&long_box, Ok(0));
-    assert_verdict(&placed(&long_box, &[0]), Ok(Accepted { groups: 1, total: 0 }));
+    assert_verdict(&placed(&long_box, &[0]), Ok(Accepted { groups: 1, total: 0, work: 8 }));
 }
 
 #[test]
@@ -45,7 +45,7 @@ fn a_short_is_held_against_the_earliest_long() {
 #[test]
 fn holdings_are_matched_by_line_not_by_series() {
     let accepted = placed(&[leg("S50c"), leg("L60c")], &[1_000_000]);
-    assert_verdict(&accepted, Ok(Accepted { groups: 1, total: 1_000_000 }));
+    assert_verdict(&accepted, Ok(Accepted { groups: 1, total: 1_000_000, work: 4 }));
     for change in [
         |held: &mut Leg| held.style = Style::European,
         |held: &mut Leg| held.market = Market::Otc,
@@ -74,14 +74,14 @@ fn split_lines_are_ordinary() {
     ];
     let held = [times(4, "S50c"), times(5, "L60c"), times(1, "S50c")].map(|leg| in_group(0, leg));
     let sheet = Sheet { holdings: held.to_vec(), ..placed(&placement, &[3_000_000, 2_000_000]) };
-    assert_verdict(&sheet, Ok(Accepted { groups: 2, total: 5_000_000 }));
+    assert_verdict(&sheet, Ok(Accepted { groups: 2, total: 5_000_000, work: 6 + 4 }));
 }
 
 #[test]
 fn an_unplaced_short_is_refused_though_an_unplaced_long_is_free() {
     let with_unplaced = |notation| placed(&[leg("L60c"), leg("S50c"), paid(leg(notation))], &[1_000_000]);
     assert_verdict(&with_unplaced("S50p"), refusal(15, 2, 2));
-    assert_verdict(&with_unplaced("L50p"), Ok(Accepted { groups: 1, total: 1_000_000 }));
+    assert_verdict(&with_unplaced("L50p"), Ok(Accepted { groups: 1, total: 1_000_000, work: 4 }));
 }
 
 #[test]

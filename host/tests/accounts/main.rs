@@ -16,6 +16,7 @@ mod minis;
 mod salvage;
 mod symbols;
 mod unplaced;
+mod work;
 
 use usm::block::LONGEST_FILE;
 use usm::both::{Calls, BOTH};

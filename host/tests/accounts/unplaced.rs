@@ -11,7 +11,7 @@ fn beside(unplaced: &[Leg]) -> Sheet {
     placed(&[&[leg("L60c"), leg("S50c")][..], unplaced].concat(), &[1_000_000])
 }
 
-const ACCEPTED: Accepted = Accepted { groups: 1, total: 1_000_000 };
+const ACCEPTED: Accepted = Accepted { groups: 1, total: 1_000_000, work: 4 };
 
 fn unpaid(notation: &str) -> Leg {
     in_group(0, leg(notation))
@@ -62,7 +62,7 @@ fn the_mark_is_no_part_of_line_or_series() {
     let placement = [times(2, "L60c"), times(2, "S50c"), paid(times(2, "L60c")), paid(leg("L60c"))];
     let holdings = [times(5, "L60c"), times(2, "S50c")].map(|leg| in_group(0, leg));
     let sheet = Sheet { holdings: holdings.to_vec(), ..placed(&placement, &[2_000_000]) };
-    assert_verdict(&sheet, Ok(Accepted { groups: 1, total: 2_000_000 }));
+    assert_verdict(&sheet, Ok(Accepted { groups: 1, total: 2_000_000, work: 4 }));
     // A doubled series stays one though one side is marked.
     assert_margin(&[Leg { paid: true, ..leg("L50c") }, leg("S50c")], refusal(10, 2, 1));
 }

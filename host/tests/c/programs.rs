@@ -13,8 +13,8 @@ usm_cash: refusal 21, table 2, place 1
 cash required 1000000
 strike 50000 net -1000000
 strike 60000 net 0
-usm_check_sheet: accepted, groups 2, total 1500000 mills
-usm_check_file: accepted, groups 2, total 1500000 mills
+usm_check_sheet: accepted, groups 2, total 1500000 mills, work 8
+usm_check_file: accepted, groups 2, total 1500000 mills, work 8
 file of 1536 bytes: ACCEPT 2 1500000
 GROUP 1 1000000
 50000 -1000000
@@ -28,7 +28,7 @@ after the day 4 records, 1 fills refused
 fill 1: refusal 18
 usm_check_sheet: refusal 15, table 2, place 0
 1 long marked as paid, byte 25 is 1
-usm_check_sheet: accepted, groups 0, total 0 mills
+usm_check_sheet: accepted, groups 0, total 0 mills, work 0
 a list of 2 holdings, and the same list again
 usm_import: refusal 24, table 6, place 0
 salvaged a file of 1024 bytes
@@ -43,7 +43,7 @@ usm_write_file: refusal 1, table 0, place 0
 ";
 
 const CXX_SHEET: &str = "\
-a sheet: 0 1 1000000 0
+a sheet: 0 1 1000000 4
 no tables: 0 0 0 0
 no placement: 14 1 0 0
 no holdings: 14 2 0 0

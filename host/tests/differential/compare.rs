@@ -5,7 +5,7 @@ use std::fmt::{Debug, Display};
 
 use usm::ffi::{self, Answer, LINE_BYTES, TABLE_BYTES};
 use usm::lent::Lent;
-use usm::{model, Form, Origin, PlayCounts, Refusal, Table, Tables, RECORD_BYTES};
+use usm::{model, Accepted, Form, Origin, PlayCounts, Refusal, Table, Tables, RECORD_BYTES};
 
 use crate::fills::Day;
 
@@ -120,11 +120,16 @@ pub fn worksheet(case: &dyn Display, placement: &[u8], g: u64, strikes_room: usi
     same(case, &call, answer, numbers(&expected, |rows| [rows as u64, 0, 0]))
 }
 
+/// The numbers of a verdict: groups, total, and the work behind them.
+fn verdict(sheet: Accepted) -> [u64; 3] {
+    [sheet.groups, sheet.total as u64, sheet.work]
+}
+
 pub fn check_sheet(case: &dyn Display, tables: &Tables) -> u64 {
     let Tables { holdings, placement, claims } = tables;
     let answer = answer_of(|answer| ffi::check_sheet(holdings, placement, claims, answer));
     let expected = model::check_sheet(holdings, placement, claims);
-    same(case, "usm_check_sheet", answer, numbers(&expected, |sheet| [sheet.groups, sheet.total as u64, 0]))
+    same(case, "usm_check_sheet", answer, numbers(&expected, verdict))
 }
 
 /// The form and the account are numbers here, so that there may be another form than the two.
@@ -167,7 +172,7 @@ pub fn export(case: &dyn Display, roots: &[u8], holdings: &[u8], room: usize) ->
 pub fn check_file(case: &dyn Display, file: &[u8]) -> u64 {
     let answer = answer_of(|answer| ffi::check_file(file, answer));
     let expected = model::check_file(file);
-    same(case, "usm_check_file", answer, numbers(&expected, |sheet| [sheet.groups, sheet.total as u64, 0]))
+    same(case, "usm_check_file", answer, numbers(&expected, verdict))
 }
 
 pub fn read_file(case: &dyn Display, file: &[u8], rooms: [usize; 3]) -> u64 {

@@ -7,7 +7,7 @@ use std::fmt::Display;
 use usm::fields::records;
 use usm::{
     check_file, check_table, export, import, move_to_new, move_to_old, play_fills, Claim, Form, Leg,
-    OptionType, Origin, PlayCounts, Sheet, Side, Style, Table, Tables, LONGEST_LIST, RECORD_BYTES,
+    OptionType, Origin, PlayCounts, Sheet, Side, Style, Table, Tables, LONGEST_LIST, MOST_WORK, RECORD_BYTES,
 };
 
 use crate::files;
@@ -50,6 +50,13 @@ pub fn margins_cover_every_price(case: &dyn Display, random: &mut Random, sheet:
         let net: i128 = legs.map(|leg| value(leg, prices[&leg.underlying], d)).sum();
         assert!(-net <= d * i128::from(claim.margin), "{case}: group {} is not covered", claim.group);
     }
+}
+
+/// No accepted sheet is more work than the most there is.
+pub fn work_is_within_its_limit(case: &dyn Display, sheet: &Sheet) {
+    let work = sheet.check().expect("an accepted sheet").work;
+    assert!(work <= MOST_WORK, "{case}: {work}");
+    assert!(work >= sheet.placement.iter().filter(|leg| leg.group > 0).count() as u64, "{case}: {work}");
 }
 
 /// No margin of an accepted sheet is larger than it must be: it is 0, or the loss at some strike, or what

@@ -42,6 +42,7 @@ fn valid_sheets() {
         assert_eq!(compare::check_sheet(case, &tables), 0, "{case}: a sheet that should be accepted");
         laws::margins_cover_every_price(case, random, &sheet);
         laws::margins_are_reached(case, &sheet);
+        laws::work_is_within_its_limit(case, &sheet);
         laws::moves_go_round(case, &tables, files::origin(random));
         laws::the_pass_takes_old_sheets(case, random, &sheet);
         try_tables(case, random, &tables, tally);

@@ -33,6 +33,49 @@ fn one_file_has_its_line_and_a_sentence() {
 }
 
 #[test]
+fn the_work_is_told_where_it_is_asked_for() {
+    let folder = folder("tool-work");
+    let [good, short] = files();
+    fs::write(folder.join("good.usm"), good).expect("a file");
+    fs::write(folder.join("short.usm"), short).expect("a file");
+    let sentence = "good.usm: accepted: 1 group, total margin $1,000.000 (1000000 mills)\n\
+                    good.usm: 4 intrinsic values worked out\n";
+    assert_eq!(
+        told(run(&folder, &["check", "--work", "good.usm"], b"")),
+        (0, "ACCEPT 1 1000000\n".into(), sentence.into())
+    );
+    let (status, lines, sentences) =
+        told(run(&folder, &["check", "good.usm", "none.usm", "short.usm", "good.usm", "--work"], b""));
+    assert_eq!(status, 2);
+    let accepted = "good.usm: ACCEPT 1 1000000\n";
+    assert_eq!(lines, format!("{accepted}short.usm: REFUSE 16 3 1\n{accepted}"));
+    let sentences: Vec<&str> =
+        sentences.lines().filter(|line| !line.starts_with("sheet: none.usm")).collect();
+    let refused = format!("short.usm: refused: {SHORT}");
+    assert_eq!(
+        sentences,
+        [
+            "good.usm: 4 intrinsic values worked out",
+            refused.as_str(),
+            "short.usm: 0 intrinsic values worked out",
+            "good.usm: 4 intrinsic values worked out",
+            "2 accepted, 1 refused, 1 not read; 8 intrinsic values worked out",
+        ]
+    );
+    // It is always among the keys of JSON.
+    let [plain, asked] = [&["check", "--json", "good.usm"][..], &["check", "--json", "--work", "good.usm"]]
+        .map(|arguments| told(run(&folder, arguments, b"")));
+    assert_eq!(plain, asked);
+    assert!(plain.1.contains("\"work\":4,"), "{}", plain.1);
+    let unknown = "sheet: the command was not understood; `sheet help` shows the commands\n";
+    for arguments in
+        [&["show", "good.usm", "--work"][..], &["check", "--work"], &["binary", "--table", "--work"]]
+    {
+        assert_eq!(told(run(&folder, arguments, b"")), (2, String::new(), unknown.into()), "{arguments:?}");
+    }
+}
+
+#[test]
 fn many_files_have_a_line_each_and_a_summary() {
     let folder = folder("tool-many");
     let [good, short] = files();

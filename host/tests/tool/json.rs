@@ -21,10 +21,10 @@ fn every_file_has_an_object_with_the_same_keys() {
     let (status, objects, _) = told(run_named(&folder, &arguments, b""));
     assert_eq!(status, 2);
     let expected = [
-        r#"{"file":"good.usm","verdict":"accepted","groups":1,"total":1000000,"refusal":null,"error":null}"#,
-        r#"{"file":"\"a\\\u000a.usm","verdict":"refused","groups":null,"total":null,"refusal":{"number":16,"table":3,"place":1,"sentence":"group 1 claims $0.001 (1 mills); its margin is $1,000.000 (1000000 mills)"},"error":null}"#,
-        "{\"file\":\"\u{FFFD}.usm\",\"file_hex\":\"ff2e75736d\",\"verdict\":\"accepted\",\"groups\":1,\"total\":1000000,\"refusal\":null,\"error\":null}",
-        r#"{"file":"none","verdict":"not read","groups":null,"total":null,"refusal":null,"error":"none: cannot be read: No such file or directory (os error 2)"}"#,
+        r#"{"file":"good.usm","verdict":"accepted","groups":1,"total":1000000,"work":4,"refusal":null,"error":null}"#,
+        r#"{"file":"\"a\\\u000a.usm","verdict":"refused","groups":null,"total":null,"work":0,"refusal":{"number":16,"table":3,"place":1,"sentence":"group 1 claims $0.001 (1 mills); its margin is $1,000.000 (1000000 mills)"},"error":null}"#,
+        "{\"file\":\"\u{FFFD}.usm\",\"file_hex\":\"ff2e75736d\",\"verdict\":\"accepted\",\"groups\":1,\"total\":1000000,\"work\":4,\"refusal\":null,\"error\":null}",
+        r#"{"file":"none","verdict":"not read","groups":null,"total":null,"work":null,"refusal":null,"error":"none: cannot be read: No such file or directory (os error 2)"}"#,
     ];
     assert_eq!(objects.lines().collect::<Vec<&str>>(), expected);
 }

@@ -3,7 +3,8 @@
 //! Batches of the two take turns. Of each side the least and the middle time are shown, and of
 //! the ratios of neighbouring batches the middle one and the range of their middle half, so that
 //! a busy moment of the machine does not decide. Lent buffers are made once and not cleared
-//! between calls. Words after the command choose the rows whose names have one of them.
+//! between calls. Words after the command choose the rows whose names have one of them. Beside a check of a sheet
+//! stands how many intrinsic values it works out, and the library's time for each.
 
 #![forbid(unsafe_code)]
 
@@ -23,8 +24,13 @@ fn main() {
         println!("under the emulator {emulator}: the times say nothing, and a ratio may be off by three\n");
     }
     println!(
-        "{:<44} {:>19} {:>19} {:>7} {:>20}",
-        "nanoseconds", "model least, middle", "library least, mid.", "least", "middle (middle half)"
+        "{:<44} {:>19} {:>19} {:>7} {:>20}  {:>17}",
+        "nanoseconds",
+        "model least, middle",
+        "library least, mid.",
+        "least",
+        "middle (middle half)",
+        "values, ns a value"
     );
     let words: Vec<String> = std::env::args().skip(1).collect();
     let wanted = |row: &Row| words.is_empty() || words.iter().any(|word| row.name.contains(word.as_str()));
@@ -49,7 +55,7 @@ fn timed(mut row: Row) -> (Measured, Option<&'static str>) {
     let measured = measure(&mut row.model, &mut row.library);
     let Measured { model, library, ratios } = &measured;
     println!(
-        "{:<44} {:>9.0} {:>9.0} {:>9.0} {:>9.0} {:>7.2} {:>6.2} ({:.2} to {:.2})",
+        "{:<44} {:>9.0} {:>9.0} {:>9.0} {:>9.0} {:>7.2} {:>6.2} ({:.2} to {:.2}){}",
         row.name,
         model.least,
         model.middle,
@@ -58,8 +64,19 @@ fn timed(mut row: Row) -> (Measured, Option<&'static str>) {
         library.least / model.least,
         ratios.middle,
         ratios.low,
-        ratios.high
+        ratios.high,
+        work_beside(row.work, library.middle)
     );
     let slower = (ratios.middle > 1.0).then(|| row.name);
     (measured, slower)
+}
+
+/// The intrinsic values that a check of a sheet worked out, and the library's nanoseconds for each; a sheet without
+/// groups has none.
+fn work_beside(work: Option<u64>, nanoseconds: f64) -> String {
+    match work {
+        None => String::new(),
+        Some(0) => format!("  {:>9}", 0),
+        Some(values) => format!("  {values:>9} {:>7.2}", nanoseconds / values as f64),
+    }
 }

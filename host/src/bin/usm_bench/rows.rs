@@ -14,6 +14,8 @@ use crate::inputs::{long_box, sheet, typical_sheets};
 
 pub struct Row {
     pub name: &'static str,
+    /// How many intrinsic values one call works out, where the call answers with that.
+    pub work: Option<u64>,
     pub model: Box<dyn FnMut() -> u64>,
     pub library: Box<dyn FnMut() -> u64>,
 }
@@ -22,7 +24,7 @@ pub struct Row {
 pub fn row<Timed: FnMut() -> u64 + 'static>(name: &'static str, timed: impl Fn(Calls) -> Timed) -> Row {
     let (mut model, mut library) = (timed(MODEL), timed(LIBRARY));
     assert_eq!(model(), library(), "{name}: model and library differ");
-    Row { name, model: Box::new(model), library: Box::new(library) }
+    Row { name, work: None, model: Box::new(model), library: Box::new(library) }
 }
 
 /// Folds an answer into a number, so that the two can be held against each other.
@@ -38,17 +40,22 @@ fn total(accepted: Accepted) -> u64 {
 }
 
 fn check_sheet(name: &'static str, tables: &Tables) -> Row {
-    row(name, |calls| {
+    let Tables { holdings, placement, claims } = tables;
+    let work = usm::check_sheet(holdings, placement, claims).ok().map(|accepted| accepted.work);
+    let row = row(name, |calls| {
         let Tables { holdings, placement, claims } = tables.clone();
         move || folded((calls.check_sheet)(&holdings, &placement, &claims), total)
-    })
+    });
+    Row { work, ..row }
 }
 
 fn check_file(name: &'static str, file: &[u8]) -> Row {
-    row(name, |calls| {
+    let work = usm::check_file(file).ok().map(|accepted| accepted.work);
+    let row = row(name, |calls| {
         let file = file.to_vec();
         move || folded((calls.check_file)(&file), total)
-    })
+    });
+    Row { work, ..row }
 }
 
 fn file_table(name: &'static str, file: &[u8]) -> Row {

@@ -12,6 +12,7 @@ pub struct Arguments {
     pub force: bool,
     pub json: bool,
     pub table: bool,
+    pub work: bool,
     pub help: bool,
     pub version: bool,
 }
@@ -28,6 +29,7 @@ impl Arguments {
                 Some("--force") => arguments.force = true,
                 Some("--json") => arguments.json = true,
                 Some("--table") => arguments.table = true,
+                Some("--work") => arguments.work = true,
                 Some("-h" | "--help") => arguments.help = true,
                 Some("-V" | "--version") => arguments.version = true,
                 Some(option) if option.len() > 1 && option.starts_with('-') => {

@@ -3,7 +3,7 @@
 use std::ffi::{OsStr, OsString};
 use std::process::ExitCode;
 
-use usm::numbers::{dollars, grouped};
+use usm::numbers::{count, dollars, grouped};
 use usm::program::shown;
 use usm::{check_file, sentences, Accepted, Refusal, LONGEST_FILE};
 
@@ -40,7 +40,7 @@ impl Found {
     /// The same for people.
     pub fn sentence(&self) -> String {
         match self {
-            Found::Accepted(Accepted { groups, total }) => {
+            Found::Accepted(Accepted { groups, total, .. }) => {
                 let groups = if *groups == 1 { String::from("1 group") } else { format!("{groups} groups") };
                 format!("accepted: {groups}, total margin {} ({total} mills)", dollars(*total))
             }
@@ -50,15 +50,27 @@ impl Found {
     }
 }
 
+impl Found {
+    /// How many intrinsic values were worked out for a verdict; a refusal answers with none.
+    pub fn work(&self) -> Option<u64> {
+        match self {
+            Found::Accepted(accepted) => Some(accepted.work),
+            Found::Refused(..) => Some(0),
+            Found::Unread(_) => None,
+        }
+    }
+}
+
 #[derive(Default)]
 struct Tally {
     accepted: usize,
     refused: usize,
     unread: usize,
+    work: u64,
 }
 
 /// Checks every file, also behind one that could not be read.
-pub fn check(names: &[OsString], json: bool) -> Result<ExitCode, String> {
+pub fn check(names: &[OsString], json: bool, work: bool) -> Result<ExitCode, String> {
     let mut output = Output::new();
     let mut tally = Tally::default();
     let mut file = Vec::with_capacity(LONGEST_FILE + 1);
@@ -69,13 +81,17 @@ pub fn check(names: &[OsString], json: bool) -> Result<ExitCode, String> {
             output.print(json::object(name, &found).as_bytes())?;
         } else {
             report(&mut output, name, names.len() > 1, &found)?;
+            if let (true, Some(values)) = (work, found.work()) {
+                output.tell(&format!("{}: {}", shown(name), worked_out(values)))?;
+            }
         }
         if let Found::Unread(message) = &found {
             output.tell(&format!("sheet: {message}"))?;
         }
     }
     if names.len() > 1 {
-        output.tell(&tally.summary())?;
+        let worked_out = if work { format!("; {}", worked_out(tally.work)) } else { String::new() };
+        output.tell(&format!("{}{worked_out}", tally.summary()))?;
     }
     output.end()?;
     Ok(ExitCode::from(tally.status()))
@@ -102,8 +118,13 @@ fn report(output: &mut Output, name: &OsStr, several: bool, found: &Found) -> Re
     }
 }
 
+fn worked_out(values: u64) -> String {
+    format!("{} worked out", count(values, "intrinsic value"))
+}
+
 impl Tally {
     fn count(&mut self, found: &Found) {
+        self.work += found.work().unwrap_or(0);
         match found {
             Found::Accepted(_) => self.accepted += 1,
             Found::Refused(..) => self.refused += 1,

@@ -11,14 +11,15 @@ use crate::check::Found;
 /// The object of one file, with its newline.
 pub fn object(name: &OsStr, found: &Found) -> String {
     let (verdict, groups, total, refusal, error) = match found {
-        Found::Accepted(Accepted { groups, total }) => {
+        Found::Accepted(Accepted { groups, total, .. }) => {
             ("accepted", groups.to_string(), total.to_string(), null(), null())
         }
         Found::Refused(refusal, sentence) => ("refused", null(), null(), refused(refusal, sentence), null()),
         Found::Unread(message) => ("not read", null(), null(), null(), string(message)),
     };
+    let work = found.work().map_or_else(null, |work| work.to_string());
     format!(
-        "{{{},\"verdict\":\"{verdict}\",\"groups\":{groups},\"total\":{total},\
+        "{{{},\"verdict\":\"{verdict}\",\"groups\":{groups},\"total\":{total},\"work\":{work},\
          \"refusal\":{refusal},\"error\":{error}}}\n",
         file(name)
     )

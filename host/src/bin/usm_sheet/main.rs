@@ -31,7 +31,9 @@ const USAGE: &str = "\
 usage:
   sheet make TEXT OUT [--force]   make the sheet file OUT from the text file TEXT
   sheet show FILE                 print a sheet file as text that `make` reads
-  sheet check FILE.. [--json]     print the verdict on sheet files
+  sheet check FILE.. [--json] [--work]
+                                  print the verdict on sheet files; with --work also how many
+                                  intrinsic values were worked out for it
   sheet margins FILE              print the margin of each group
   sheet cash FILE                 print the cash that each group requires in a cash account
   sheet worksheet FILE G          print the net of group G at each of its strikes
@@ -81,18 +83,20 @@ fn run(words: Vec<OsString>) -> Result<ExitCode, String> {
     if arguments.version {
         return print(concat!("sheet ", env!("CARGO_PKG_VERSION"), "\n"));
     }
-    let Arguments { force, json, table, .. } = arguments;
+    let Arguments { force, json, table, work, .. } = arguments;
     let files = arguments.files.as_slice();
-    if table {
-        return match (arguments.command.as_str(), files, force, json) {
-            ("binary", [], false, false) => binaries::tables(),
+    if table || work {
+        // Options of one command alone.
+        return match (arguments.command.as_str(), files, force, json, table) {
+            ("binary", [], false, false, true) if !work => binaries::tables(),
+            ("check", [_, ..], false, json, false) => check::check(files, json, true),
             _ => Err(no_command()),
         };
     }
     match (arguments.command.as_str(), files, force, json) {
         ("make", [text, out], force, false) => make::make(text, out, force),
         ("show", [file], false, false) => make::show(file),
-        ("check", [_, ..], false, json) => check::check(files, json),
+        ("check", [_, ..], false, json) => check::check(files, json, false),
         ("margins", [file], false, false) => groups::margins(file),
         ("cash", [file], false, false) => groups::cash(file),
         ("worksheet", [file, group], false, false) => groups::worksheet(file, group),

@@ -13,8 +13,9 @@ returns c = rw (sym (c .before .before .before .group-fault .ensures) ∙ c .bef
 
 returns-2 : tie.Need-returns-2
 returns-2 c =
-    rw (sym (c .before .before .before .before .group-fault .ensures) ∙ c .before .before .enum-told .given .1)
-    (ap Mills (toZ-pos w64 (omega arith) ∙ ap pos (c .group-margin .ensures .0)))
+    let m = c .before in
+    rw (sym (m .before .before .before .before .group-fault .ensures) ∙ m .before .before .enum-told .given .1)
+    (ap Mills (toZ-pos w64 (omega (arith, m .group-margin .ensures .1)) ∙ ap pos (m .group-margin .ensures .0)))
 
 pub checked-margin-spec : {M : Type 1} → statement M
 checked-margin-spec =

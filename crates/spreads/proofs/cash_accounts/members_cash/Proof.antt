@@ -13,8 +13,9 @@ use Rattle.spreads.proofs.cash_accounts.members_cash.Tie as tie
 returns : tie.Need-returns
 unfolding requiredOf
 returns c =
-    let t = c .before in
-    ap Mills (toZ-pos w64 (omega arith) ∙ ap pos (c .required-of .ensures .0)) ∙ fit-due _ _ (sym (t .before .fit-for-cash .ensures) ∙ t .if1 .taken)
+    let r = c .before in
+    let t = r .before in
+    ap Mills (toZ-pos w64 (omega (arith, r .required-of .ensures .1)) ∙ ap pos (r .required-of .ensures .0)) ∙ fit-due _ _ (sym (t .before .fit-for-cash .ensures) ∙ t .if1 .taken)
 
 returns-2 : tie.Need-returns-2
 returns-2 c =

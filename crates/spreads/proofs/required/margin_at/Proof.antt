@@ -8,31 +8,41 @@ use Rattle.spreads.proofs.BoxBounds.{Half, other-strikes, two-legs, two
 use Rattle.spreads.proofs.required.margin_at.Statement.{statement}
 use Rattle.spreads.proofs.required.margin_at.Tie as tie
 
--- ---- other than two strikes
+-- ---- the walk
+
+abbrev walked : tie.After-slice-known4 → tie.After-worst-at
+walked k = k .before .before .before .before
+
+abbrev begin : tie.After-slice-known4 → tie.Start
+begin k = walked k .before .before .before .before .before .before .before .before
 
 worst-at-requires : tie.Need-worst-at-requires
-worst-at-requires c κs = c .before .before .before .before .before .before .before .before .pre
+worst-at-requires c κs = c .before .before .before .before .before .before .before .pre
+
+-- ---- other than two strikes
 
 returns : tie.Need-returns
 returns c =
-    let w = c .before .before .before .before in
-    let t = w .before .before .before in
-    let p = t .before .before .before .before .before .before .pre in
-    (w .worst-at .ensures .0 ∙ other-strikes (p .0) (p .1 .0) (t .if1 .taken), w .worst-at .ensures .1)
+    let w = walked (c .before) in
+    let p = begin (c .before) .pre in
+    (w .worst-at .ensures .0 ∙ other-strikes (p .0) (p .1 .0) (c .if1 .taken), w .worst-at .ensures .1, w .worst-at .ensures .2)
 
 -- ---- a long box
 
 box-at-requires : tie.Need-box-at-requires
 box-at-requires c κs =
     let t = c .before .before in
-    let p = t .before .before .before .before .before .before .pre in
+    let p = begin (t .before) .pre in
     (p .0, two-legs (p .0) (p .1 .0) (t .if1 .left))
 
 abbrev boxed : tie.After-known-told → tie.After-box-at
 boxed c = c .before .before .before
 
+abbrev two : tie.After-box-at → tie.Else1
+two b = b .before .before .before
+
 abbrev start : tie.After-box-at → tie.Start
-start b = b .before .before .before .before .before .before .before .before .before
+start b = begin (two b .before)
 
 half : (c : tie.After-known-told)
     → (let s = start (boxed c) .args in
@@ -40,36 +50,21 @@ half : (c : tie.After-known-told)
 half c =
     let b = boxed c in
     let p = start b .pre in
-    two-box (p .0) (p .1 .0) (b .before .before .before .if1 .left) _ (sym (b .box-at .ensures) ∙ c .before .number .given .1)
-
-sub-result : tie.Need-sub-result
-sub-result c = omega (arith, half c .apart)
-
-cast-result : tie.Need-cast-result
-cast-result c = omega (arith, half c .below)
-
-mul-result : tie.Need-mul-result
-mul-result c = omega (arith, half c .small)
-
-add-result : tie.Need-add-result
-add-result c = omega (arith, half c .small)
+    two-box (p .0) (p .1 .0) (two b .if1 .left) _ (sym (b .box-at .ensures) ∙ c .before .number .given .1)
 
 returns-2 : tie.Need-returns-2
-returns-2 c = (half c .is, omega (arith, half c .small))
+returns-2 c = (half c .is, omega (arith, half c .small), walked (two (boxed c) .before) .worst-at .ensures .2)
 
 -- ---- two strikes, and no long box
 
-worst-at-requires-2 : tie.Need-worst-at-requires-2
-worst-at-requires-2 c κs = start (c .before .before .before .before) .pre
-
 returns-3 : tie.Need-returns-3
 returns-3 c =
-    let w = c .before .before .before .before in
-    let e = w .before .before .before in
-    let b = e .before .before in
+    let b = c .before .before in
+    let w = walked (two b .before) in
     let p = start b .pre in (
-      w .worst-at2 .ensures .0 ∙ two-strikes (p .0) (p .1 .0) (b .before .before .before .if1 .left) (sym (b .box-at .ensures) ∙ e .enum-told .given .1),
-      w .worst-at2 .ensures .1,
+      w .worst-at .ensures .0 ∙ two-strikes (p .0) (p .1 .0) (two b .if1 .left) (sym (b .box-at .ensures) ∙ c .enum-told .given .1),
+      w .worst-at .ensures .1,
+      w .worst-at .ensures .2,
     )
 
 pub margin-at-spec : {M : Type 1} → statement M
@@ -84,12 +79,13 @@ margin-at-spec =
     (λ c. search needs)
     box-at-requires
     (λ c. search needs)
-    sub-result
-    cast-result
-    mul-result
-    add-result
+    (λ c. omega (arith, half c .apart))
+    (λ c. omega (arith, half c .below))
+    (λ c. omega (arith, half c .small))
+    (λ c. omega (arith, half c .small))
     (λ c. search needs)
-    worst-at-requires-2
+    (λ c. search needs)
+    (λ c. search needs)
     returns-2
     (λ c. search needs)
     (λ c. search needs)

@@ -31,7 +31,7 @@ checked a = a .before .before .before .before .before
 abbrev file : tie.After-enum-told → List ℕ
 file a = now (start (checked a) .args .file)
 
-accepted : (a : tie.After-enum-told) → fileVerdict (file a) ≡ Accepted (a .enum-told .given .0 .0) (a .enum-told .given .0 .1 .0)
+accepted : (a : tie.After-enum-told) → fileVerdict (file a) ≡ Accepted (a .enum-told .given .0 .0) (a .enum-told .given .0 .1 .0) (a .enum-told .given .0 .1 .1 .0)
 accepted a = sym (checked a .check-copied .ensures .0) ∙ a .enum-told .given .1
 
 -- its records in the lent tables
@@ -63,7 +63,7 @@ put-groups-requires : tie.Need-put-groups-requires
 put-groups-requires c κs =
     let a = c .before .before .before .before in
     rw (placement a .1, claims a .1) (
-      accepted-shown (file a) _ _ (accepted a),
+      accepted-shown (file a) _ _ _ (accepted a),
       omega (arith, bytes (start (checked a)) .placement, a .before .before .before .before .holdings2 .given),
     )
 
@@ -77,7 +77,7 @@ returns-2 : tie.Need-returns-2
 returns-2 c =
     let g = c .before in
     let a = g .before .before .before .before .before in
-    piece-is (accepted-text (file a) _ _ (accepted a)) (rw (placement a .1, claims a .1) at (g .put-groups .ensures))
+    piece-is (accepted-text (file a) _ _ _ (accepted a)) (rw (placement a .1, claims a .1) at (g .put-groups .ensures))
 
 pub read-table-spec : {M : Type 1} → statement M
 read-table-spec =
