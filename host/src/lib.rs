@@ -41,6 +41,7 @@ mod binaries;
 mod calls;
 mod fills;
 mod form;
+mod joining;
 mod lists;
 mod reason;
 mod records;

@@ -34,6 +34,15 @@ pub fn dollars(mills: i64) -> String {
     format!("{sign}${}.{:03}", grouped(mills / 1_000), mills % 1_000)
 }
 
+/// An amount of mills in dollars and in mills, as sentences say it.
+///
+/// ```
+/// assert_eq!(usm::numbers::amount(1_500_000), "$1,500.000 (1500000 mills)");
+/// ```
+pub fn amount(mills: i64) -> String {
+    format!("{} ({mills} mills)", dollars(mills))
+}
+
 /// A place that counts from 0, as people count: the 1st, the 2nd.
 ///
 /// ```

@@ -1,4 +1,4 @@
--- A leg's fields said in bytes, and read again; and its ranges, with another count of contracts or another paid mark.
+-- A leg's fields said in bytes, and read again; and its ranges, in another group, with another count of contracts or another paid mark.
 use Prim.Native.Nat.{ℕ, _+_, _*_, _/_, _%_, _≤_, _<_}
 use mathlib.Core.Path.{_≡_, refl}
 use mathlib.Core.Bool.{true, and-eq-true-iff}
@@ -9,14 +9,14 @@ use Rattle.records.specs.Bytes.{leAt, leBytes, zeroIn}
 use Rattle.records.specs.Lists.{allOf}
 use Rattle.records.specs.Within.{within}
 use Rattle.records.specs.Dates.{realDate}
-use Rattle.records.specs.Legs.{mostContracts, contractsFrom, withContracts, withPaid, legFields, legOf, legBytes, termsInRange, inRange, goodLeg}
+use Rattle.records.specs.Legs.{mostContracts, contractsFrom, withGroup, withContracts, withPaid, legFields, legOf, legBytes, termsInRange, inRange, goodLeg}
 use Rattle.records.specs.declared.legs.Leg.{Leg}
 use Rattle.records.proofs.TableLaws.{Ranges, ranges}
 
-two : (n : ℕ) → n < 65536 → n % 256 + 256 * (n / 256 % 256 + 256 * 0) ≡ n
+pub two : (n : ℕ) → n < 65536 → n % 256 + 256 * (n / 256 % 256 + 256 * 0) ≡ n
 two n h = omega arith
 
-four : (n : ℕ) → n < 4294967296 → n % 256 + 256 * (n / 256 % 256 + 256 * (n / 256 / 256 % 256 + 256 * (n / 256 / 256 / 256 % 256 + 256 * 0))) ≡ n
+pub four : (n : ℕ) → n < 4294967296 → n % 256 + 256 * (n / 256 % 256 + 256 * (n / 256 / 256 % 256 + 256 * (n / 256 / 256 / 256 % 256 + 256 * 0))) ≡ n
 four n h = omega arith
 
 one : (n : ℕ) → n + 256 * 0 ≡ n
@@ -69,6 +69,28 @@ parts top l e =
     let k = and-eq-true-iff _ _ .0 (s .0) in
     let d = and-eq-true-iff _ _ .0 (k .0) in
     (d .0, d .1, k .1, s .1, p .1)
+
+terms : (top : ℕ) (l : Leg) → termsInRange top l ≡ true
+    → (within 1 2 (l .side) ≡ true) × (within 1 2 (l .right) ≡ true) × (within 1 2 (l .style) ≡ true) × (within 1 2 (l .market) ≡ true)
+    × (within 1 1000 (l .size) ≡ true) × (within 1 4294967295 (l .underlying) ≡ true) × (within 1 99999999 (l .strike) ≡ true)
+unfolding termsInRange
+terms top l e =
+    let p7 = and-eq-true-iff _ _ .0 e in
+    let p6 = and-eq-true-iff _ _ .0 (p7 .0) in
+    let p5 = and-eq-true-iff _ _ .0 (p6 .0) in
+    let p4 = and-eq-true-iff _ _ .0 (p5 .0) in
+    let p3 = and-eq-true-iff _ _ .0 (p4 .0) in
+    let p2 = and-eq-true-iff _ _ .0 (p3 .0) in
+    let p1 = and-eq-true-iff (within 0 top (l .group)) _ .0 (p2 .0) in
+    (p1 .1, p2 .1, p3 .1, p4 .1, p5 .1, p6 .1, p7 .1)
+
+-- in another group in its range
+pub group-range : (top g : ℕ) (l : Leg) → inRange top l ≡ true → g ≤ top → inRange top (withGroup l g) ≡ true
+unfolding inRange termsInRange withGroup
+group-range top g l e a =
+    let p = parts top l e in
+    let t = terms top l (p .0) in
+    rw (le-leb 0 g (omega arith), le-leb g top a, t .0, t .1, t .2, t .3, t .4, t .5, t .6, p .1, p .2, p .3, p .4)
 
 -- with another count of contracts in its range
 pub contracts-range : (top n : ℕ) (l : Leg) → inRange top l ≡ true → 1 ≤ n → n ≤ mostContracts → inRange top (withContracts l (contractsFrom n)) ≡ true

@@ -13,3 +13,4 @@ pub mod SameLaws
 pub mod LineLaws
 pub mod LegLaws
 pub mod RecordLaws
+pub mod ClaimLaws

@@ -23,6 +23,11 @@ unfolding most
 most-map f g h e [] = refl
 most-map f g h e (x ∷ l) = omega (arith, e x, most-map f g h e l)
 
+pub sum-map : {A B : Type 0} (f : A → B) (g : B → ℕ) (l : List A) → sumOf g (map f l) ≡ sumOf (λ x. g (f x)) l
+unfolding sumOf
+sum-map f g [] = refl
+sum-map f g (x ∷ l) = rw (sum-map f g l)
+
 module _ {A : Type 0} where
   -- c times a sum is a times another and b times a third, where that holds at each element
   pub sum-lin : (c a b : ℕ) (f g h : A → ℕ) (l : List A) → All (λ x. c * f x ≡ a * g x + b * h x) l → c * sumOf f l ≡ a * sumOf g l + b * sumOf h l

@@ -127,6 +127,24 @@ plusContracts a b = record { 0 = min (a .0 + b .0) 4294967295 }
 abbrev pub lessContracts : Contracts → Contracts → Contracts
 lessContracts a b = record { 0 = a .0 - b .0 }
 
+-- the same leg in another group
+unfoldable pub withGroup : Leg → ℕ → Leg
+withGroup l g =
+    record {
+      group = g;
+      side = l .side;
+      right = l .right;
+      style = l .style;
+      market = l .market;
+      size = l .size;
+      underlying = l .underlying;
+      strike = l .strike;
+      expiry = l .expiry;
+      contracts = l .contracts;
+      settlement = l .settlement;
+      paid = l .paid;
+    }
+
 -- the same leg with another count of contracts
 unfoldable pub withContracts : Leg → Contracts → Leg
 withContracts l c =

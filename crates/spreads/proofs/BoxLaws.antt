@@ -13,13 +13,12 @@ use Rattle.records.specs.Legs.{isLong, isShort, isCall, isPut, isEuropean}
 use Rattle.records.specs.declared.legs.Leg.{Leg}
 use Rattle.records.proofs.ListLaws.{all-map, allOf-all, all-allOf}
 use Rattle.spreads.specs.Prices.{longAt, shortAt, at}
-use Rattle.spreads.specs.Spreads.{groupOf, oneOf, unitsIn, Spread}
+use Rattle.spreads.specs.Spreads.{oneOf, unitsIn, Spread}
 use Rattle.spreads.specs.Strikes.{strikesOf, worstLoss}
-use Rattle.spreads.specs.Demands.{merged}
 use Rattle.spreads.specs.Boxes.{unitsAt, isBoxLeg, LongBox, evenKinds, boxAt, boxOn, isLongBox, halfOf, halfBox, marginOf}
 use Rattle.spreads.proofs.RuleLaws.{one-of-to-all, all-to-one-of}
 use Rattle.spreads.proofs.Cover.{cover, nothing-less}
-use Rattle.spreads.proofs.Merge.{merge-groups}
+use Rattle.spreads.proofs.Merge.{Together, merge}
 use Rattle.spreads.proofs.BoxKinds.{long-kinds, short-kinds}
 
 -- ---- the test and the facts
@@ -153,14 +152,6 @@ worst-margin legs = go (isLongBox legs) refl
     go true e = omega (arith, box-worst legs (test-to-box legs e))
     go false e = omega (arith, other-margin legs e)
 
--- joining two groups into one that is no long box never costs more
-pub merge-margins : (g k : ℕ) (p : List Leg) → (g ≡ k → ⊥) → Spread g (groupOf g p) → Spread k (groupOf k p) → isLongBox (merged g k p) ≡ false
-    → marginOf (merged g k p) ≤ marginOf (groupOf g p) + marginOf (groupOf k p)
-merge-margins g k p ne sg sk e =
-    omega (
-      arith,
-      other-margin (merged g k p) e,
-      merge-groups g k p ne sg sk,
-      worst-margin (groupOf g p),
-      worst-margin (groupOf k p),
-    )
+-- the legs of two spreads, taken together, cost no more than the two where they are no long box
+pub join-margins : (g k : ℕ) (a b j : List Leg) → Spread g a → Spread k b → Together a b j → isLongBox j ≡ false → marginOf j ≤ marginOf a + marginOf b
+join-margins g k a b j sa sb t e = omega (arith, other-margin j e, merge g k a b j sa sb t, worst-margin a, worst-margin b)

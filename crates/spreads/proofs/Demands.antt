@@ -12,20 +12,21 @@ use Rattle.records.specs.declared.refusals.Fault.{Fault}
 use Rattle.records.specs.declared.refusals.Fault.the-variants.{Nothing, Is}
 use Rattle.records.proofs.PutLaws.{put-front, put-past}
 use Rattle.spreads.specs.Prices.{net}
-use Rattle.spreads.specs.Spreads.{groupIn}
+use Rattle.spreads.specs.Spreads.{groupOf, groupIn}
 use Rattle.spreads.specs.Strikes.{strikesOf, netsOf}
 use Rattle.spreads.specs.Calls.{groupChecks, listedAnswer, listedAfter, strikesListed, worksheetCall, listLeft, marginsFrom, groupsChecks, marginsCall}
-use Rattle.spreads.specs.Demands.{merged, SpreadJust, StrikesJust, WorstIsGreatest, Leaves, WorksheetLeaves, MarginsLeave, BoxJust, BoxAnyOrder, BoxAnySplit, BoxNets, MarginsJust, FitJust, CashRight, CashGiven, JoiningLoses, JoiningCosts}
+use Rattle.spreads.specs.Demands.{merged, SpreadJust, StrikesJust, WorstIsGreatest, Leaves, WorksheetLeaves, MarginsLeave, BoxJust, BoxAnyOrder, BoxAnySplit, BoxNets, MarginsJust, FitJust, CashRight, CashGiven, JoiningNeverCosts, JoiningCosts, JoiningLoses, JoinedBoxCosts}
 use Rattle.spreads.specs.declared.calls.Listed.{Listed}
 use Rattle.spreads.specs.declared.calls.Listed.the-variants.{Entries, Refused}
 use Rattle.spreads.proofs.RuleLaws.{no-refusal-to-spread, spread-to-no-refusal}
 use Rattle.spreads.proofs.StrikeLaws.{strikes-have, strikes-from, strikes-ascending}
 use Rattle.spreads.proofs.Nets.{worst-greatest}
 use Rattle.spreads.proofs.MarginLists.{length-margins}
-use Rattle.spreads.proofs.Merge.{merge-groups}
+use Rattle.spreads.proofs.Merge.{merge, merged-together}
 use Rattle.spreads.proofs.Cover.{cover, nothing-less}
 use Rattle.spreads.proofs.CashLaws.{fit-facts, facts-fit, answered, given}
-use Rattle.spreads.proofs.BoxLaws.{test-to-box, box-to-test, no-box-test, box-margin, other-margin, box-nets, box-worst, merge-margins}
+use Rattle.spreads.proofs.BoxLaws.{test-to-box, box-to-test, no-box-test, box-margin, other-margin, box-nets, box-worst, join-margins}
+use Rattle.spreads.proofs.Bench.{joined-box-costs}
 use Rattle.spreads.proofs.BoxOrder.{box-swap, box-split, box-join}
 
 pub spread-just : SpreadJust
@@ -118,8 +119,20 @@ pub margins-leave : MarginsLeave
 margins-leave placement n out =
     leaves (marginsCall placement n (length out)) (marginsFrom (legsOf placement) 1 n) out (margins-listed placement n (length out))
 
+-- ---- joining groups
+
 pub joining-loses : JoiningLoses
-joining-loses = merge-groups
+joining-loses g k placement ne sg sk =
+    merge g k (groupOf g placement) (groupOf k placement) (merged g k placement) sg sk (merged-together g k placement ne)
 
 pub joining-costs : JoiningCosts
-joining-costs g k placement ne sg sk other = merge-margins g k placement ne sg sk (no-box-test (merged g k placement) other)
+joining-costs g k placement ne sg sk other =
+    join-margins g k (groupOf g placement) (groupOf k placement) (merged g k placement) sg sk (merged-together g k placement ne)
+    (no-box-test (merged g k placement) other)
+
+pub joining-never-costs : JoiningNeverCosts
+joining-never-costs g k placement ne sg sk joined = joining-costs g k placement ne sg sk
+
+-- that long boxes must be excepted is computed in Bench
+pub exception-needed : JoinedBoxCosts
+exception-needed = joined-box-costs

@@ -11,7 +11,7 @@ use lib.IntN.{ℤ, pos, negℤ}
 use lib.ListN.{length, take, drop}
 use lib.Signed.{_≤ℤ_}
 use Rattle.records.specs.Lists.{keep, All}
-use Rattle.records.specs.Legs.{contractsFrom, withContracts}
+use Rattle.records.specs.Legs.{contractsFrom, withContracts, inRange}
 use Rattle.records.specs.Order.{firstOf}
 use Rattle.records.specs.Tables.{tableChecks, legsOf}
 use Rattle.records.specs.declared.legs.Leg.{Leg}
@@ -22,6 +22,7 @@ use Rattle.spreads.specs.Prices.{longAt, shortAt, at}
 use Rattle.spreads.specs.Strikes.{strikesOf, worstLoss, netsOf}
 use Rattle.spreads.specs.Boxes.{LongBox, isLongBox, halfOf, marginOf}
 use Rattle.spreads.specs.Cash.{FitForCash, isFit, cashCall}
+use Rattle.spreads.specs.Bench.{verticals}
 use Rattle.spreads.specs.Calls.{worksheetCall, listLeft, marginsFrom, marginsCall}
 use Rattle.spreads.specs.declared.calls.Due.the-variants.{Mills}
 use Rattle.spreads.specs.declared.calls.Listed.{Listed}
@@ -128,17 +129,36 @@ MarginsLeave = (placement : List ℕ) (n : ℕ) (out : List ℤ)
     let margins = marginsFrom (legsOf placement) 1 n in
     Leaves answer margins out (listLeft answer margins out))
 
+-- ---- 'Joining groups never costs more'
+
 -- the legs of groups g and k taken together, in the placement's order
 unfoldable pub merged : ℕ → ℕ → List Leg → List Leg
 merged g k legs = keep (λ l. eqb (l .group) g || eqb (l .group) k) legs
 
--- two groups that are spreads never lose more together than by themselves
-abbrev pub JoiningLoses : Type 0
-JoiningLoses = (g k : ℕ) (placement : List Leg) → g ≢ k → Spread g (groupOf g placement) → Spread k (groupOf k placement)
-    → worstLoss (merged g k placement) ≤ worstLoss (groupOf g placement) + worstLoss (groupOf k placement)
+-- 'If two groups, and their legs taken together, are all spreads, and the joined group is no box under [2], .. its margin is
+-- at most the sum of the two.'
+abbrev pub JoiningNeverCosts : Type 0
+JoiningNeverCosts = (g k : ℕ) (placement : List Leg) → g ≢ k → Spread g (groupOf g placement) → Spread k (groupOf k placement)
+    → Spread g (merged g k placement) → ¬ LongBox (merged g k placement)
+    → marginOf (merged g k placement) ≤ marginOf (groupOf g placement) + marginOf (groupOf k placement)
 
--- and joining them costs no more, unless what is joined is a long box
+-- that follows from more: what is joined need not be a spread
 abbrev pub JoiningCosts : Type 0
 JoiningCosts = (g k : ℕ) (placement : List Leg) → g ≢ k → Spread g (groupOf g placement) → Spread k (groupOf k placement)
     → ¬ LongBox (merged g k placement)
     → marginOf (merged g k placement) ≤ marginOf (groupOf g placement) + marginOf (groupOf k placement)
+
+-- and two groups that are spreads never lose more together than by themselves, long box or not
+abbrev pub JoiningLoses : Type 0
+JoiningLoses = (g k : ℕ) (placement : List Leg) → g ≢ k → Spread g (groupOf g placement) → Spread k (groupOf k placement)
+    → worstLoss (merged g k placement) ≤ worstLoss (groupOf g placement) + worstLoss (groupOf k placement)
+
+-- long boxes must be excepted: two European verticals of no margin join into one, which is asked its half
+pub record JoinedBoxCosts : Type 0 where
+  pub ranges : All (λ l. inRange 32 l ≡ true) verticals
+  pub calls : Spread 1 (groupOf 1 verticals)
+  pub puts : Spread 2 (groupOf 2 verticals)
+  pub joined : Spread 1 (merged 1 2 verticals)
+  pub box : LongBox (merged 1 2 verticals)
+  pub before : marginOf (groupOf 1 verticals) + marginOf (groupOf 2 verticals) ≡ 0
+  pub after : marginOf (merged 1 2 verticals) ≡ 500_000

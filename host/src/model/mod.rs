@@ -5,7 +5,7 @@
 //! same signatures as the wrapper's at the top of this package.
 
 mod binaries;
-mod boxes;
+pub mod boxes;
 mod file;
 mod fills;
 mod salvage;

@@ -1,24 +1,27 @@
 //! Why a group needs a margin though it loses nothing: it is a European long box.
 
-use crate::numbers::dollars;
+use crate::numbers::{amount, dollars};
 
-/// What the margin is half of, where it is not the worst loss of the worksheet: of a European long box that is
-/// the aggregate difference in exercise prices, its net at every strike.
+/// A margin; and what it is half of, where it is not the worst loss of the worksheet: of a European long box that
+/// is the aggregate difference in exercise prices, its net at every strike.
 ///
 /// ```
-/// use usm::sentences::of_box;
-/// let half = "half of $1,000.000, the difference in strikes of this European long box times its units";
-/// assert_eq!(of_box(500_000, &[(50_000, 1_000_000), (60_000, 1_000_000)]).as_deref(), Some(half));
-/// assert_eq!(of_box(0, &[(50_000, 1_000_000), (60_000, 1_000_000)]), None);
-/// assert_eq!(of_box(1_000_000, &[(50_000, 0), (60_000, -1_000_000)]), None);
+/// use usm::sentences::of_margin;
+/// let half = "$500.000 (500000 mills), half of $1,000.000, the difference in strikes of this European long box \
+///             times its units";
+/// assert_eq!(of_margin(500_000, &[(50_000, 1_000_000), (60_000, 1_000_000)]), half);
+/// assert_eq!(of_margin(0, &[(50_000, 1_000_000), (60_000, 1_000_000)]), "$0.000 (0 mills)");
+/// assert_eq!(of_margin(1_000_000, &[(50_000, 0), (60_000, -1_000_000)]), "$1,000.000 (1000000 mills)");
 /// ```
-pub fn of_box(margin: i64, worksheet: &[(u32, i64)]) -> Option<String> {
-    let (_, net) = *worksheet.first()?;
+pub fn of_margin(margin: i64, worksheet: &[(u32, i64)]) -> String {
+    let net = worksheet.first().map_or(0, |(_, net)| *net);
     let gains_alike = worksheet.iter().all(|(_, other)| *other == net) && net > 0;
-    (gains_alike && margin > 0).then(|| {
-        format!(
-            "half of {}, the difference in strikes of this European long box times its units",
+    let half = match gains_alike && margin > 0 {
+        true => format!(
+            ", half of {}, the difference in strikes of this European long box times its units",
             dollars(net)
-        )
-    })
+        ),
+        false => String::new(),
+    };
+    format!("{}{half}", amount(margin))
 }

@@ -20,7 +20,7 @@ use crate::refusal::Refusal;
 use crate::sheet::Sheet;
 
 pub use binaries::{of_binary, of_pair};
-pub use boxes::of_box;
+pub use boxes::of_margin;
 pub use fills::of_fills;
 pub use moves::of_move;
 pub use salvage::{of_dropped, of_left_out, of_salvage};

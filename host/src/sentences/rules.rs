@@ -1,7 +1,7 @@
 //! Refusals 5 and 14 to 16: what a sheet's records say, and what they should.
 
-use super::boxes::of_box;
-use crate::numbers::{count, dollars, ordinal};
+use super::boxes::of_margin;
+use crate::numbers::{amount, count, ordinal};
 use crate::reason::Reason;
 use crate::records::{Leg, Side};
 use crate::refusal::Refusal;
@@ -78,11 +78,6 @@ fn contracts(sheet: &Sheet, leg: &Leg) -> String {
 pub fn claim_sentence(sheet: &Sheet, group: u64) -> Option<String> {
     let claimed = sheet.claims.iter().find(|claim| u64::from(claim.group) == group)?.margin;
     let due = sheet.margin(group).ok()?;
-    let half =
-        of_box(due, &sheet.worksheet(group).ok()?).map_or_else(String::new, |half| format!(", {half}"));
-    Some(format!(
-        "group {group} claims {} ({claimed} mills); its margin is {} ({due} mills){half}",
-        dollars(claimed),
-        dollars(due),
-    ))
+    let due = of_margin(due, &sheet.worksheet(group).ok()?);
+    Some(format!("group {group} claims {}; its margin is {due}", amount(claimed)))
 }

@@ -10,6 +10,7 @@ mod cash;
 mod files;
 mod fills;
 mod forms;
+mod joining;
 mod limits;
 mod look_right;
 mod minis;

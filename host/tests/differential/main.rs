@@ -15,6 +15,7 @@ mod dates;
 mod faults;
 mod files;
 mod fills;
+mod joining;
 mod laws;
 mod random;
 mod salvage;
@@ -36,7 +37,7 @@ const ALL_BUT_DAMAGE: [usize; 19] = [0, 1, 3, 4, 5, 6, 7, 8, 9, 10, 11, 12, 13, 
 
 #[test]
 fn valid_sheets() {
-    run("valid_sheets", 12, &[0, 3, 6, 17, 20], |case, random, tally| {
+    run("valid_sheets", 10, &[0, 3, 6, 17, 20], |case, random, tally| {
         let sheet = sheets::valid(random);
         let tables = sheet.tables();
         assert_eq!(compare::check_sheet(case, &tables), 0, "{case}: a sheet that should be accepted");
@@ -45,13 +46,16 @@ fn valid_sheets() {
         laws::work_is_within_its_limit(case, &sheet);
         laws::moves_go_round(case, &tables, files::origin(random));
         laws::the_pass_takes_old_sheets(case, random, &sheet);
+        if sheet.claims.len() > 1 {
+            joining::never_costs_more(case, random, &sheet);
+        }
         try_tables(case, random, &tables, tally);
     });
 }
 
 #[test]
 fn one_fault() {
-    run("one_fault", 14, &ALL_BUT_DAMAGE, |case, random, tally| {
+    run("one_fault", 12, &ALL_BUT_DAMAGE, |case, random, tally| {
         let mut tables = sheets::valid(random).tables();
         faults::one(random, &mut tables);
         try_tables(case, random, &tables, tally);
@@ -95,6 +99,15 @@ fn near_boxes() {
             laws::margins_are_reached(case, &sheet);
         }
         try_tables(case, random, &sheet.tables(), tally);
+    });
+}
+
+/// Groups that may be joined, or nearly, and two of them in one. What is counted is what becomes of the join.
+#[test]
+fn joined_groups() {
+    run("joined_groups", 4, &[0, 7, 8, 9, 10, 13], |case, random, tally| {
+        let sheet = joining::sheet(random);
+        tally.count(joining::never_costs_more(case, random, &sheet));
     });
 }
 

@@ -31,6 +31,11 @@ pub fn valid(random: &mut Random) -> Sheet {
         previous = legs.clone();
         placement.extend(legs.into_iter().map(|leg| in_group(group as u16, leg)));
     }
+    of_placement(random, placement)
+}
+
+/// An accepted sheet of these groups, each of which is a spread.
+pub fn of_placement(random: &mut Random, mut placement: Vec<Leg>) -> Sheet {
     unplaced_longs(random, &mut placement);
     split_records(random, &mut placement);
     if random.one_in(2) {

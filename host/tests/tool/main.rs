@@ -9,6 +9,7 @@ mod binaries;
 mod check;
 mod full;
 mod groups;
+mod join;
 mod json;
 mod make;
 mod moves;
@@ -87,6 +88,7 @@ fn commands_not_understood_are_told_of_the_help() {
         &["check", "a", "--force"],
         &["show", "a", "--json"],
         &["worksheet", "a"],
+        &["join", "a", "1", "2"],
         &["import", "a", "b"],
         &["export", "a", "b", "c", "--json"],
         &["frob", "a"],

@@ -1,7 +1,7 @@
 //! Samples that are accepted.
 
 use usm::accounts::{in_group, leg, paid, placed, times};
-use usm::{Leg, Settlement, Sheet, Style};
+use usm::{Leg, OptionType, Settlement, Sheet, Style};
 
 use crate::list::{iron_condor, sample, Sample, ACCOUNT};
 
@@ -62,6 +62,14 @@ fn long_box(style: Style) -> [Leg; 4] {
     ["L50c", "S60c", "L60p", "S50p"].map(|notation| Leg { style, ..leg(notation) })
 }
 
+/// P5's legs as European ones, calls in group 1 and puts in group 2.
+fn box_in_two_groups() -> [Leg; 4] {
+    long_box(Style::European).map(|leg| match leg.option_type {
+        OptionType::Call => leg,
+        OptionType::Put => in_group(2, leg),
+    })
+}
+
 /// A European vertical in group 1, settled so.
 pub fn settled(settlement: Settlement) -> [Leg; 2] {
     ["L60c", "S50c"].map(|notation| Leg { style: Style::European, settlement, ..leg(notation) })
@@ -74,6 +82,12 @@ pub fn sheets() -> Vec<Sample> {
             "iron-condor-in-two-groups",
             "An iron condor placed as two verticals: each half needs its own margin.",
             placed(&iron_condor(2), &[1_000_000, 500_000]),
+        ),
+        sample(
+            "european-box-in-two-groups",
+            "The European long box placed as two verticals, calls and puts: neither loses, and in one group they need \
+             half of the difference (`sheet join`).",
+            placed(&box_in_two_groups(), &[0, 0]),
         ),
         sample(
             "split-lines",

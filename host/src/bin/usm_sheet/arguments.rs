@@ -1,6 +1,6 @@
 //! The words of the command line. File names need not be UTF-8.
 
-use std::ffi::OsString;
+use std::ffi::{OsStr, OsString};
 
 use usm::program::shown;
 
@@ -43,4 +43,10 @@ impl Arguments {
         arguments.files = names.collect();
         Ok(arguments)
     }
+}
+
+/// The number that a word says.
+pub fn number_of(what: &str, word: &OsStr) -> Result<u64, String> {
+    let number = word.to_str().and_then(|word| word.parse().ok());
+    number.ok_or_else(|| format!("expected the number of {what}, found `{}`", shown(word)))
 }

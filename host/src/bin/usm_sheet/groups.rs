@@ -8,6 +8,7 @@ use usm::numbers::dollars;
 use usm::program::{self, shown};
 use usm::{sentences, Reason, Refusal, Sheet};
 
+use crate::arguments::number_of;
 use crate::input::sheet;
 use crate::output::Output;
 use crate::plot;
@@ -52,7 +53,8 @@ fn groups(sheet: &Sheet) -> BTreeSet<u64> {
     placed.chain(sheet.claims.iter().map(|claim| claim.group)).map(u64::from).collect()
 }
 
-fn no_spread(sheet: &Sheet, refusal: &Refusal) -> String {
+/// Why a group has no margin, or is not fit for a cash account.
+pub fn no_spread(sheet: &Sheet, refusal: &Refusal) -> String {
     let what = match refusal.reason() {
         Some(Reason::NotFitForCash) => "not for cash",
         _ => "no spread",
@@ -66,14 +68,12 @@ fn status(all_spreads: bool) -> ExitCode {
 
 /// Strikes, nets and a plot of them.
 pub fn worksheet(name: &OsStr, group: &OsStr) -> Result<ExitCode, String> {
-    let number: Option<u64> = group.to_str().and_then(|group| group.parse().ok());
-    let number = number.ok_or_else(|| format!("expected the number of a group, found `{}`", shown(group)))?;
+    let number = number_of("a group", group)?;
     let sheet = sheet(name)?;
     match sheet.worksheet(number) {
         Ok(rows) => {
             let margin = sheet.margin(number).map_err(|refusal| refusal.to_string())?;
-            let half = sentences::of_box(margin, &rows).map_or_else(String::new, |half| format!(", {half}"));
-            let head = format!("group {number}, margin {} ({margin} mills){half}\n", dollars(margin));
+            let head = format!("group {number}, margin {}\n", sentences::of_margin(margin, &rows));
             let mut output = Output::new();
             output.print(head.as_bytes())?;
             output.print(plot::table(&rows).as_bytes())?;

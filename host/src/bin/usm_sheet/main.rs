@@ -9,6 +9,7 @@ mod check;
 mod groups;
 mod input;
 mod inputs;
+mod join;
 mod json;
 mod make;
 mod moves;
@@ -37,6 +38,9 @@ usage:
   sheet margins FILE              print the margin of each group
   sheet cash FILE                 print the cash that each group requires in a cash account
   sheet worksheet FILE G          print the net of group G at each of its strikes
+  sheet join FILE G K OUT         put groups G and K of an accepted sheet file into one, restate
+                                  the claims, and tell the total before and after: joining never
+                                  costs more, unless it makes a European long box [--force]
   sheet to-new FILE ACCOUNT OUT   move a sheet file to the new form, with the number of its
                                   account in each block [--force]
   sheet to-old FILE OUT           move it back to the old form [--force]
@@ -65,10 +69,10 @@ usage:
 options. An OUT that is there already is left alone unless --force is given. `check` prints
 the line of each file on standard output, behind its name if there are several, and
 sentences for people on standard error; with --json it prints one object a file instead. The
-exit status is 0 if all is well; 1 if `check` refuses a file, `play` a fill, `import` a list
-or `export` holdings, `salvage` drops a block, a group of `margins` or `worksheet` is no
-spread, or one of `cash` not fit for it, or the numbers of `binary` or `pair` are refused; 2
-if something could not be done.
+exit status is 0 if all is well; 1 if `check` or `join` refuses a file, `play` a fill,
+`import` a list or `export` holdings, `salvage` drops a block, a group of `margins`,
+`worksheet` or `join` is no spread, or one of `cash` not fit for it, or the numbers of
+`binary` or `pair` are refused; 2 if something could not be done.
 ";
 
 fn main() -> ExitCode {
@@ -100,6 +104,7 @@ fn run(words: Vec<OsString>) -> Result<ExitCode, String> {
         ("margins", [file], false, false) => groups::margins(file),
         ("cash", [file], false, false) => groups::cash(file),
         ("worksheet", [file, group], false, false) => groups::worksheet(file, group),
+        ("join", [file, g, k, out], force, false) => join::join(file, [g, k], out, force),
         ("to-new", [file, account, out], force, false) => moves::to_new(file, account, out, force),
         ("to-old", [file, out], force, false) => moves::to_old(file, out, force),
         ("mark-paid", [file, out], force, false) => paid::mark_paid(file, out, force),

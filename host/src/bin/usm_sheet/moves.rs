@@ -6,15 +6,13 @@ use std::process::ExitCode;
 use usm::program::shown;
 use usm::{move_to_new, move_to_old, sentences, Form, Origin, LONGEST_FILE};
 
+use crate::arguments::number_of;
 use crate::input::read_into;
 use crate::make::{same_file, write};
 
 /// To the new form, with an account.
 pub fn to_new(name: &OsStr, account: &OsStr, out_name: &OsStr, force: bool) -> Result<ExitCode, String> {
-    let number: Option<u64> = account.to_str().and_then(|account| account.parse().ok());
-    let number =
-        number.ok_or_else(|| format!("expected the number of an account, found `{}`", shown(account)))?;
-    moved(name, Origin::new(number), out_name, force)
+    moved(name, Origin::new(number_of("an account", account)?), out_name, force)
 }
 
 /// To the old form, which does not say the account.
