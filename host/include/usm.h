@@ -58,14 +58,14 @@
  *    5  a claim not for group (record + 1); or a placed record
  *       with a group above the number of claims                   3 or 2, record
  *    6  the group has no leg, or is not 1 to 32                   2, group
- *    7  underlyings differ                                        2, group
- *    8  styles differ                                             2, group
- *    9  markets differ                                            2, group
+ *    7  underlyings differ                                        2, record
+ *    8  styles differ                                             2, record
+ *    9  markets differ                                            2, record
  *   10  a series (type, strike, expiry and unit size) is both
- *       long and short                                            2, group
+ *       long and short                                            2, record
  *   11  long and short call units are unequal                     2, group
  *   12  long and short put units are unequal                      2, group
- *   13  a short outlives a long                                   2, group
+ *   13  a short outlives a long                                   2, record
  *   14  contracts of a line and side differ between holdings
  *       and placement                                             1 or 2, record
  *   15  a short, or a long without the paid mark, is not placed   2, record
@@ -232,8 +232,9 @@ void usm_check_table(uint64_t kind, const uint8_t *table, size_t table_len, uint
  * calls at the lower strike, short in calls at the higher, long in puts at the higher and short in puts
  * at the lower, records of one kind added together, with no leg of any other kind.
  *   success  { 0, margin, 0, 0 }
- *   refusals 1; 4 over the whole table; 6 to 13, table 2, place g as given.
- *            g may be any number; 0 and those above 32 are 6.
+ *   refusals 1; 4 over the whole table; 6 to 13, table 2. The place of 6, 11 and 12 is g as given;
+ *            that of 7, 8, 9, 10 and 13 the lowest record such that the group's legs up to and with
+ *            it already break the condition. g may be any number; 0 and those above 32 are 6.
  */
 void usm_margin(const uint8_t *placement, size_t placement_len, uint64_t g, uint64_t *answer);
 

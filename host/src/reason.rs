@@ -24,19 +24,19 @@ pub enum Reason {
     GroupsMisnumbered = 5,
     /// 6: the group has no leg, or is not one of 1 to 32.
     NoLeg = 6,
-    /// 7: a group mixes underlyings.
+    /// 7: a leg has another underlying than its group's first leg.
     UnderlyingsDiffer = 7,
-    /// 8: a group mixes American and European options.
+    /// 8: a leg has another style, American or European, than its group's first leg.
     StylesDiffer = 8,
-    /// 9: a group mixes listed and OTC options.
+    /// 9: a leg has another market, listed or OTC, than its group's first leg.
     MarketsDiffer = 9,
-    /// 10: a series, its unit size included, is both long and short in a group.
+    /// 10: a leg is of a series, its unit size included, that its group already has on the other side.
     SeriesLongAndShort = 10,
     /// 11: long and short call units of a group are unequal.
     CallUnitsUnequal = 11,
     /// 12: long and short put units of a group are unequal.
     PutUnitsUnequal = 12,
-    /// 13: a short of a group expires after a long of it.
+    /// 13: a leg is a short that expires after a long of its group, or a long that expires before a short of it.
     ShortOutlivesLong = 13,
     /// 14: holdings and placement differ in the contracts of a line and side.
     ContractsDiffer = 14,

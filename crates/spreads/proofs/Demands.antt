@@ -15,10 +15,13 @@ use Rattle.spreads.specs.Prices.{net}
 use Rattle.spreads.specs.Spreads.{groupOf, groupIn}
 use Rattle.spreads.specs.Strikes.{strikesOf, netsOf}
 use Rattle.spreads.specs.Calls.{groupChecks, listedAnswer, listedAfter, strikesListed, worksheetCall, listLeft, marginsFrom, groupsChecks, marginsCall}
-use Rattle.spreads.specs.Demands.{merged, SpreadJust, StrikesJust, WorstIsGreatest, Leaves, WorksheetLeaves, MarginsLeave, BoxJust, BoxAnyOrder, BoxAnySplit, BoxNets, MarginsJust, FitJust, CashRight, CashGiven, JoiningNeverCosts, JoiningCosts, JoiningLoses, JoinedBoxCosts}
+use Rattle.spreads.specs.Demands.{merged, SpreadJust, RefusalsName, LegsBeside, PointsOnce, StrikesJust, WorstIsGreatest, Leaves, WorksheetLeaves, MarginsLeave, BoxJust, BoxAnyOrder, BoxAnySplit, BoxNets, MarginsJust, FitJust, CashRight, CashGiven, JoiningNeverCosts, JoiningCosts, JoiningLoses, JoinedBoxCosts}
 use Rattle.spreads.specs.declared.calls.Listed.{Listed}
 use Rattle.spreads.specs.declared.calls.Listed.the-variants.{Entries, Refused}
 use Rattle.spreads.proofs.RuleLaws.{no-refusal-to-spread, spread-to-no-refusal}
+use Rattle.spreads.proofs.Naming.{refusals-name}
+use Rattle.spreads.proofs.Earlier.{legs-beside}
+use Rattle.spreads.proofs.PointLaws.{one-place}
 use Rattle.spreads.proofs.StrikeLaws.{strikes-have, strikes-from, strikes-ascending}
 use Rattle.spreads.proofs.Nets.{worst-greatest}
 use Rattle.spreads.proofs.MarginLists.{length-margins}
@@ -31,6 +34,19 @@ use Rattle.spreads.proofs.BoxOrder.{box-swap, box-split, box-join}
 
 pub spread-just : SpreadJust
 spread-just g placement = (no-refusal-to-spread g placement, spread-to-no-refusal g placement)
+
+-- ---- 'Point at the leg'
+
+pub refusals-named : RefusalsName
+refusals-named = refusals-name
+
+pub named-beside : LegsBeside
+named-beside = legs-beside
+
+pub points-once : PointsOnce
+points-once = one-place
+
+-- ---- the strikes, and the greatest loss
 
 pub strikes-just : StrikesJust
 strikes-just legs = (strikes-have legs, strikes-from legs, strikes-ascending legs)

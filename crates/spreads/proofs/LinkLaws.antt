@@ -1,61 +1,51 @@
 -- The records of a placement linked by their groups: one record more, from the last on, and a group's places along its links.
 use Prim.Native.Nat.{ℕ, _+_, _/_, _≤_, _<_}
-use mathlib.Core.Path.{_≡_, refl, sym, ap, _∙_}
-use mathlib.Core.List.{List, [], _∷_, _++_, map-append, append-assoc, append-nil}
+use mathlib.Core.Path.{_≡_, refl, sym, _∙_}
+use mathlib.Core.List.{List, [], _∷_, _++_, append-assoc, append-nil}
 use native.Mathlib.Numerals.{add-one}
 use native.Mathlib.Decide.{decLe, ℕ-discrete}
 use native.Mathlib.Omega.{arith}
-use lib.Dec.{eqb}
-use lib.ListN.{length, take, drop, set, getD, length-set, length-replicate, getD-replicate, List·getD-map, drop-of-length-le}
-use lib.Seq.{drop-cons, take-suc-set, getD-set-same, getD-set-other}
+use lib.ListN.{length, take, set, getD, length-set, length-replicate, getD-replicate, drop-of-length-le}
+use lib.Seq.{take-suc-set, getD-set-same, getD-set-other}
 use borrow.Author.Tests.{eq-eqb, ne-eqb, le-leb, lt-leb}
-use Rattle.records.specs.Lists.{All, keep}
-use Rattle.records.specs.Chunks.{recordsOf}
+use Rattle.records.specs.Lists.{All}
 use Rattle.records.specs.Legs.{legOf}
 use Rattle.records.specs.Tables.{legsOf}
 use Rattle.records.specs.declared.legs.Leg.{Leg}
-use Rattle.records.proofs.ListLaws.{all-at, keep-in, keep-out, keep-none}
-use Rattle.records.proofs.ChunkLaws.{getD-chunks}
+use Rattle.records.proofs.ListLaws.{all-at}
 use Rattle.records.proofs.TableLaws.{Ranges, length-legs}
-use Rattle.spreads.specs.Spreads.{groupOf, groupIn}
 use Rattle.spreads.specs.Steps.{Checked}
-use Rattle.spreads.specs.Members.{legIn, legsAt, MembersOf}
-use Rattle.spreads.specs.Links.{groupFrom, Next, noLinks, Linked, firstPlace}
+use Rattle.spreads.specs.Members.{legIn, placesFrom, placesIn, MembersOf}
+use Rattle.spreads.specs.Links.{placesLeft, Next, noLinks, Linked, firstPlace}
 use Rattle.spreads.proofs.Bounds.{table-few, table-ranges}
+use Rattle.spreads.proofs.MemberLaws.{leg-at, legs-from}
 
 -- ---- the records from i on
 
 module _ (xs : List ℕ) where
-  leg-at : (i : ℕ) → i < length xs / 32 → getD (legsOf xs) i (legOf []) ≡ legIn xs i
-  unfolding legsOf
-  leg-at i h = List·getD-map legOf (recordsOf xs) i [] ∙ ap legOf (getD-chunks 32 (length xs / 32) i xs h)
+  from-none : (g i : ℕ) → length xs / 32 ≤ i → placesLeft g xs i ≡ []
+  unfolding placesLeft placesFrom
+  from-none g i h = rw (drop-of-length-le (legsOf xs) {i = i} (rw length-legs h))
 
-  legs-from : (i : ℕ) → i < length xs / 32 → drop i (legsOf xs) ≡ legIn xs i ∷ drop (i + 1) (legsOf xs)
-  legs-from i h = rw (← leg-at i h, add-one) (drop-cons (legsOf xs) i (legOf []) (rw length-legs h))
+  from-in : (g i : ℕ) → i < length xs / 32 → legIn xs i .group ≡ g → placesLeft g xs i ≡ i ∷ placesLeft g xs (i + 1)
+  unfolding placesLeft placesFrom
+  from-in g i h q = rw (legs-from xs i h, eq-eqb (legIn xs i .group) g q)
 
-  from-none : (g i : ℕ) → length xs / 32 ≤ i → groupFrom g xs i ≡ []
-  unfolding groupFrom groupOf
-  from-none g i h = keep-none (λ l. eqb (l .group) g) _ (drop-of-length-le (legsOf xs) {i = i} (rw length-legs h))
+  from-out : (g i : ℕ) → i < length xs / 32 → (legIn xs i .group ≡ g → ⊥) → placesLeft g xs i ≡ placesLeft g xs (i + 1)
+  unfolding placesLeft placesFrom
+  from-out g i h q = rw (legs-from xs i h, ne-eqb (legIn xs i .group) g q)
 
-  from-in : (g i : ℕ) → i < length xs / 32 → legIn xs i .group ≡ g → groupFrom g xs i ≡ legIn xs i ∷ groupFrom g xs (i + 1)
-  unfolding groupFrom groupOf
-  from-in g i h q = keep-in (λ l. eqb (l .group) g) (legIn xs i) _ _ (legs-from i h) (eq-eqb (legIn xs i .group) g q)
-
-  from-out : (g i : ℕ) → i < length xs / 32 → (legIn xs i .group ≡ g → ⊥) → groupFrom g xs i ≡ groupFrom g xs (i + 1)
-  unfolding groupFrom groupOf
-  from-out g i h q = keep-out (λ l. eqb (l .group) g) (legIn xs i) _ _ (legs-from i h) (ne-eqb (legIn xs i .group) g q)
-
-  from-all : (g : ℕ) → groupFrom g xs 0 ≡ groupIn xs g
-  unfolding groupFrom
+  from-all : (g : ℕ) → placesLeft g xs 0 ≡ placesIn xs g
+  unfolding placesLeft
   from-all g = refl
 
   -- no record has a group above 32
-  group-none : (g : ℕ) → 32 < g → (legs : List Leg) → All (Ranges 32) legs → groupOf g legs ≡ []
-  unfolding groupOf keep
-  group-none g h [] r = refl
-  group-none g h (l ∷ ls) r =
+  group-none : (g : ℕ) → 32 < g → (i : ℕ) (legs : List Leg) → All (Ranges 32) legs → placesFrom g i legs ≡ []
+  unfolding placesFrom
+  group-none g h i [] r = refl
+  group-none g h i (l ∷ ls) r =
       let f : (l .group ≡ g → ⊥) = λ e. let no : ⊥ = omega (arith, r .0 .group) in no in
-      rw (ne-eqb (l .group) g f) (group-none g h ls (r .1))
+      rw (ne-eqb (l .group) g f) (group-none g h (i + 1) ls (r .1))
 
 -- ---- from one record to the next
 
@@ -93,7 +83,7 @@ module _ (xs : List ℕ) (p : Checked xs) where
         | yes h ↦ rw (le-leb g 32 h) (k .heads g h)
         | no h ↦
             let high : 32 < g = omega arith in
-            let none : groupFrom g xs 0 ≡ [] = from-all xs g ∙ group-none xs g high (legsOf xs) (table-ranges xs p) in
+            let none : placesLeft g xs 0 ≡ [] = from-all xs g ∙ group-none xs g high 0 (legsOf xs) (table-ranges xs p) in
             rw (lt-leb g 32 high)
             (record {
               past = omega arith;
@@ -166,11 +156,10 @@ pub record Finding (g : ℕ) (xs links d ms : List ℕ) (n count at : ℕ) : Typ
   pub few : count ≤ at
   pub many : at ≤ 256
   pub here : at < n → legIn xs at .group ≡ g
-  pub is : legsAt xs (take count ms) ++ groupFrom g xs at ≡ groupIn xs g
+  pub is : take count ms ++ placesLeft g xs at ≡ placesIn xs g
 
 pub find-none : (g : ℕ) (xs links d : List ℕ) → Checked xs → Linked xs links 0 → 256 ≤ length d → {at : ℕ} → at ≡ firstPlace links g
     → Finding g xs links d d (length xs / 32) 0 at
-unfolding legsAt
 find-none g xs links d p k h e =
     let x = first-next xs p k g in
     rw e
@@ -192,11 +181,8 @@ module _ {g : ℕ} {xs links d ms : List ℕ} {n count at : ℕ} (f : Finding g 
       (omega (arith, f .few, f .many), rw (from-none xs g at (omega (arith, f .all)), append-nil) at (f .is))
 
   module _ (h : at < n) where
-    places-more : legsAt xs (take (count + 1) (set ms count at)) ≡ legsAt xs (take count ms) ++ legIn xs at ∷ []
-    unfolding legsAt
-    places-more =
-        rw (add-one, take-suc-set ms count at (omega (arith, f .few, f .small, f .room, f .same)))
-        (map-append (legIn xs) (take count ms) (at ∷ []))
+    places-more : take (count + 1) (set ms count at) ≡ take count ms ++ at ∷ []
+    places-more = rw add-one (take-suc-set ms count at (omega (arith, f .few, f .small, f .room, f .same)))
 
     pub find-past : at < getD links at 0
     find-past = omega (arith, f .linked .nexts at (omega arith) (omega (arith, f .all)) .past)

@@ -3,21 +3,22 @@
 -- cash required it is said here.
 use Prim.Native.Nat.{ℕ, _+_, _*_, _-_, _≤_, _<_}
 use mathlib.Core.Path.{_≡_}
-use mathlib.Core.Bool.{true, _||_}
+use mathlib.Core.Bool.{Bool, true, false, not, _||_}
 use mathlib.Core.Logic.{_↔_, _≢_}
 use mathlib.Core.List.{List, [], _∷_, _++_, map, List·Memᴰ}
 use lib.Dec.{eqb}
 use lib.IntN.{ℤ, pos, negℤ}
-use lib.ListN.{length, take, drop}
+use lib.ListN.{length, take, drop, getD}
 use lib.Signed.{_≤ℤ_}
 use Rattle.records.specs.Lists.{keep, All}
 use Rattle.records.specs.Legs.{contractsFrom, withContracts, inRange}
 use Rattle.records.specs.Order.{firstOf}
 use Rattle.records.specs.Tables.{tableChecks, legsOf}
 use Rattle.records.specs.declared.legs.Leg.{Leg}
-use Rattle.records.specs.declared.refusals.Fault.the-variants.{Nothing}
+use Rattle.records.specs.declared.refusals.Refusal.{Refusal}
+use Rattle.records.specs.declared.refusals.Fault.the-variants.{Nothing, Is}
 use Rattle.records.specs.declared.tables.Kind.the-variants.{Placement}
-use Rattle.spreads.specs.Spreads.{groupOf, groupIn, Spread, groupRule}
+use Rattle.spreads.specs.Spreads.{groupOf, groupIn, oneOf, doubled, noneDoubled, outlives, noneOutlives, legsUpTo, Spread, groupRule}
 use Rattle.spreads.specs.Prices.{longAt, shortAt, at}
 use Rattle.spreads.specs.Strikes.{strikesOf, worstLoss, netsOf}
 use Rattle.spreads.specs.Boxes.{LongBox, isLongBox, halfOf, marginOf}
@@ -31,6 +32,58 @@ use Rattle.spreads.specs.declared.calls.Listed.the-variants.{Entries, Re
 -- 'They are a spread when all hold': just then 6 to 13 refuse nothing
 abbrev pub SpreadJust : Type 0
 SpreadJust = (g : ℕ) (placement : List Leg) → (firstOf (groupRule g placement) ≡ Nothing) ↔ Spread g (groupOf g placement)
+
+-- ---- 'Point at the leg'
+
+-- which group record i names
+abbrev pub groupAt : List Leg → ℕ → ℕ
+groupAt placement i = getD (map (λ l. l .group) placement) i 0
+
+-- 'the lowest record such that the group's legs up to and with it already break that condition'; it is one of the group
+pub record Points (kept : List Leg → Bool) (g : ℕ) (placement : List Leg) (place : ℕ) : Type 0 where
+  pub there : place < length placement
+  pub member : groupAt placement place ≡ g
+  pub breaks : kept (legsUpTo g placement place) ≡ false
+  pub before : (i : ℕ) → i < place → kept (legsUpTo g placement i) ≡ true
+
+-- what a refusal of group g names: 'For 7, 8, 9, 10 and 13' a leg; '6, 11, 12 .. still name the group'
+pub record Named (g : ℕ) (placement : List Leg) (r : Refusal) : Type 0 where
+  pub table : r .table ≡ 2
+  pub leg : r .number ≡ 6 → r .place ≡ g
+  pub underlying : r .number ≡ 7 → Points (oneOf (λ l. l .underlying)) g placement (r .place)
+  pub style : r .number ≡ 8 → Points (oneOf (λ l. l .style)) g placement (r .place)
+  pub market : r .number ≡ 9 → Points (oneOf (λ l. l .market)) g placement (r .place)
+  pub series : r .number ≡ 10 → Points noneDoubled g placement (r .place)
+  pub calls : r .number ≡ 11 → r .place ≡ g
+  pub puts : r .number ≡ 12 → r .place ≡ g
+  pub lives : r .number ≡ 13 → Points noneOutlives g placement (r .place)
+
+abbrev pub RefusalsName : Type 0
+RefusalsName = (g : ℕ) (placement : List Leg) (r : Refusal) → firstOf (groupRule g placement) ≡ Is r → Named g placement r
+
+-- of the leg at a place, and an earlier one of its group
+pub record Beside (r : Leg → Leg → Bool) (g : ℕ) (placement : List Leg) (place : ℕ) : Type 0 where
+  pub leg : Leg
+  pub other : Leg
+  pub there : take 1 (drop place placement) ≡ leg ∷ []
+  pub earlier : List·Memᴰ other (groupOf g (take place placement))
+  pub so : r other leg ≡ true
+
+-- the leg that 7, 8 or 9 names differs from an earlier one; that of 10 is of one series with an earlier one, on the other
+-- side; of that of 13 and an earlier one a short outlives a long, whichever is which
+pub record NamedBeside (g : ℕ) (placement : List Leg) (place : ℕ) : Type 0 where
+  pub field : (f : Leg → ℕ) → Points (oneOf f) g placement place → Beside (λ k l. not (eqb (f k) (f l))) g placement place
+  pub series : Points noneDoubled g placement place → Beside (λ k l. doubled k l || doubled l k) g placement place
+  pub lives : Points noneOutlives g placement place → Beside (λ k l. outlives k l || outlives l k) g placement place
+
+abbrev pub LegsBeside : Type 0
+LegsBeside = (g : ℕ) (placement : List Leg) (place : ℕ) → NamedBeside g placement place
+
+-- and no other record could be named so
+abbrev pub PointsOnce : Type 0
+PointsOnce = (kept : List Leg → Bool) (g : ℕ) (placement : List Leg) (a b : ℕ) → Points kept g placement a → Points kept g placement b → a ≡ b
+
+-- ---- the strikes, and the greatest loss
 
 -- each above the one before
 abbrev pub Ascending : List ℕ → Type 0

@@ -6,19 +6,17 @@ use mathlib.Core.List.{List}
 use lib.Dec.{leb}
 use lib.ListN.{length, drop, getD, replicate}
 use Rattle.records.specs.Tables.{legsOf}
-use Rattle.records.specs.declared.legs.Leg.{Leg}
-use Rattle.spreads.specs.Spreads.{groupOf}
-use Rattle.spreads.specs.Members.{legIn}
+use Rattle.spreads.specs.Members.{legIn, placesFrom}
 
--- the legs of group g from record i on
-unfoldable pub groupFrom : ℕ → List ℕ → ℕ → List Leg
-groupFrom g xs i = groupOf g (drop i (legsOf xs))
+-- the places of the legs of group g from record i on
+unfoldable pub placesLeft : ℕ → List ℕ → ℕ → List ℕ
+placesLeft g xs i = placesFrom g i (drop i (legsOf xs))
 
 -- of group g the first leg from record i on stands at p; where there is none, p is past all records
 pub record Next (g : ℕ) (xs : List ℕ) (i p : ℕ) : Type 0 where
   pub past : i ≤ p
   pub few : p ≤ 256
-  pub same : groupFrom g xs p ≡ groupFrom g xs i
+  pub same : placesLeft g xs p ≡ placesLeft g xs i
   pub here : p < length xs / 32 → legIn xs p .group ≡ g
 
 -- no record leads anywhere, and no group has a leg

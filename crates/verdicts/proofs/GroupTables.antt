@@ -1,5 +1,5 @@
 -- The records of one group as a table of their own: its group is the same, and its call answers as before.
-use mathlib.Core.Path.{_≡_, refl, sym, ap}
+use mathlib.Core.Path.{_≡_, refl, sym}
 use mathlib.Core.Bool.{Bool, true}
 use mathlib.Core.List.{List, [], _∷_, _++_, append-nil, flatten}
 use Prim.Native.Nat.{ℕ, _+_, _*_, _/_, _%_, _≤_}
@@ -19,7 +19,8 @@ use Rattle.records.proofs.ListLaws.{all-keep, length-keep, keep-map, keep-keep,
 use Rattle.records.proofs.PassLaws.{Pass, clear, unclear, pass-left, pass-right, pass-both, pass-each, each-pass}
 use Rattle.records.proofs.TableLaws.{whole}
 use Rattle.spreads.specs.Calls.{groupChecks}
-use Rattle.spreads.specs.Spreads.{groupOf, groupIn, groupRule, spreadChecks}
+use Rattle.spreads.specs.Spreads.{groupOf, groupIn, groupRule}
+use Rattle.spreads.proofs.RuleLaws.{rule-to-spread, spread-to-rule}
 use Rattle.verdicts.specs.Steps.{Answered, groupTable, worksheetLines}
 
 -- ---- those of one group
@@ -96,9 +97,9 @@ module _ (xs : List ℕ) (g : ℕ) where
   pub table-lines : worksheetLines (groupTable xs g) g ≡ worksheetLines xs g
   table-lines = rw table-group
 
-  table-rule : groupRule g (legsOf (groupTable xs g)) ≡ groupRule g (legsOf xs)
-  unfolding groupRule
-  table-rule = ap (spreadChecks g) table-group
+  -- refusals would name other records of it; but it is a spread just as the group is
+  table-rule : Pass (groupRule g (legsOf xs)) → Pass (groupRule g (legsOf (groupTable xs g)))
+  table-rule p = spread-to-rule g (legsOf (groupTable xs g)) (rw table-group (rule-to-spread g (legsOf xs) p))
 
   length-table : length (groupTable xs g) ≡ 32 * length parts
   unfolding groupTable
@@ -127,4 +128,4 @@ module _ (xs : List ℕ) (g : ℕ) where
       unclear (groupChecks (groupTable xs g) g)
       (pass-both (tableChecks Placement (groupTable xs g)) (groupRule g (legsOf (groupTable xs g)))
       (table-whole (t .0), table-fields (t .1))
-      (rw table-rule (pass-right (tableChecks Placement xs) (groupRule g (legsOf xs)) p)))
+      (table-rule (pass-right (tableChecks Placement xs) (groupRule g (legsOf xs)) p)))

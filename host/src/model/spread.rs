@@ -12,46 +12,54 @@ pub struct Row {
     pub net: i64,
 }
 
+/// The legs of group `g`: the records with that group, in their order.
+fn legs_of(records: &[Leg], g: u64) -> Vec<Leg> {
+    records.iter().copied().filter(|leg| u64::from(leg.group) == g).collect()
+}
+
+/// What a refusal's place counts.
+enum Names {
+    Group,
+    Record,
+}
+
+/// A condition that legs break, its number, and what its refusal names.
+type Condition = (u64, Names, fn(&[Leg]) -> bool);
+
+/// 7 to 13 of "Refusals in their order", with what document 02, [14], has each of them name.
+const CONDITIONS: [Condition; 7] = [
+    (7, Names::Record, |legs| differ(legs, |leg| leg.underlying)),
+    (8, Names::Record, |legs| differ(legs, |leg| leg.style)),
+    (9, Names::Record, |legs| differ(legs, |leg| leg.market)),
+    (10, Names::Record, a_series_is_doubled),
+    (11, Names::Group, |legs| units_are_unequal(legs, OptionType::Call)),
+    (12, Names::Group, |legs| units_are_unequal(legs, OptionType::Put)),
+    (13, Names::Record, a_short_outlives_a_long),
+];
+
 /// The legs of group `g` if they are a spread, or the first of 6 to 13.
 pub fn of_group(placement: &[Leg], g: u64) -> Result<Vec<Leg>, Refusal> {
-    let legs: Vec<Leg> = placement.iter().copied().filter(|leg| u64::from(leg.group) == g).collect();
-    match first_fault(&legs, g) {
-        Some(number) => Err(Refusal::new(number, Table::Placement.number(), g)),
+    let refused = |number, place| Err(Refusal::new(number, Table::Placement.number(), place));
+    let legs = legs_of(placement, g);
+    if legs.is_empty() || !(1..=MOST_CLAIMS as u64).contains(&g) {
+        return refused(6, g);
+    }
+    match CONDITIONS.into_iter().find(|(_, _, broken)| broken(&legs)) {
         None => Ok(legs),
+        Some((number, Names::Group, _)) => refused(number, g),
+        Some((number, Names::Record, broken)) => refused(number, breaking_record(placement, g, broken)),
     }
 }
 
-fn first_fault(legs: &[Leg], g: u64) -> Option<u64> {
-    if !(1..=MOST_CLAIMS as u64).contains(&g) {
-        return Some(6);
-    }
-    let first = match legs.first() {
-        Some(first) => first,
-        None => return Some(6),
-    };
-    if legs.iter().any(|leg| leg.underlying != first.underlying) {
-        return Some(7);
-    }
-    if legs.iter().any(|leg| leg.style != first.style) {
-        return Some(8);
-    }
-    if legs.iter().any(|leg| leg.market != first.market) {
-        return Some(9);
-    }
-    if a_series_is_doubled(legs) {
-        return Some(10);
-    }
-    for (option_type, number) in [(OptionType::Call, 11), (OptionType::Put, 12)] {
-        if units(legs, option_type, Side::Long) != units(legs, option_type, Side::Short) {
-            return Some(number);
-        }
-    }
-    let latest_short = expiries(legs, Side::Short).max();
-    let earliest_long = expiries(legs, Side::Long).min();
-    match (latest_short, earliest_long) {
-        (Some(short), Some(long)) if short > long => Some(13),
-        _ => None,
-    }
+/// "The lowest record such that the group's legs up to and with it already break that condition", of a
+/// condition that the whole group breaks.
+fn breaking_record(placement: &[Leg], g: u64, broken: fn(&[Leg]) -> bool) -> u64 {
+    let already = |&record: &usize| broken(&legs_of(&placement[..=record], g));
+    (0..placement.len()).find(already).expect("the whole group breaks it") as u64
+}
+
+fn differ<T: PartialEq>(legs: &[Leg], field: fn(&Leg) -> T) -> bool {
+    legs.iter().any(|leg| field(leg) != field(&legs[0]))
 }
 
 /// Whether some series is both long and short.
@@ -60,12 +68,21 @@ fn a_series_is_doubled(legs: &[Leg]) -> bool {
     on(Side::Long).any(|long| on(Side::Short).any(|short| short.series() == long.series()))
 }
 
-fn units(legs: &[Leg], option_type: OptionType, side: Side) -> i64 {
-    legs.iter().filter(|leg| leg.option_type == option_type && leg.side == side).map(Leg::units).sum()
+fn units_are_unequal(legs: &[Leg], option_type: OptionType) -> bool {
+    let on = |side| {
+        let counted = legs.iter().filter(|leg| leg.option_type == option_type && leg.side == side);
+        counted.map(Leg::units).sum::<i64>()
+    };
+    on(Side::Long) != on(Side::Short)
 }
 
-fn expiries(legs: &[Leg], side: Side) -> impl Iterator<Item = u32> + '_ {
-    legs.iter().filter(move |leg| leg.side == side).map(|leg| leg.expiry)
+/// Whether the latest short expiry is later than the earliest long expiry.
+fn a_short_outlives_a_long(legs: &[Leg]) -> bool {
+    let expiries = |side| legs.iter().filter(move |leg| leg.side == side).map(|leg| leg.expiry);
+    match (expiries(Side::Short).max(), expiries(Side::Long).min()) {
+        (Some(latest_short), Some(earliest_long)) => latest_short > earliest_long,
+        _ => false,
+    }
 }
 
 /// The net at price `price`: longs add units times intrinsic value, shorts subtract it.
@@ -122,10 +139,9 @@ pub fn cash(legs: &[Leg], g: u64) -> Result<i64, Refusal> {
 /// "How much work a sheet may cause", document 02, [12]: one intrinsic value for each leg of group `g` and each
 /// distinct strike of it.
 pub fn work(placement: &[Leg], g: u64) -> u64 {
-    let strikes: Vec<u32> =
-        placement.iter().filter(|leg| u64::from(leg.group) == g).map(|leg| leg.strike).collect();
-    let distinct: BTreeSet<u32> = strikes.iter().copied().collect();
-    (strikes.len() * distinct.len()) as u64
+    let legs = legs_of(placement, g);
+    let distinct: BTreeSet<u32> = legs.iter().map(|leg| leg.strike).collect();
+    (legs.len() * distinct.len()) as u64
 }
 
 /// The margins of groups 1 to `n`, or the refusal of the lowest that is no spread.

@@ -7,6 +7,7 @@ mod boxes;
 mod fields;
 mod fills;
 mod groups;
+mod legs;
 mod lines;
 mod moves;
 mod rules;
@@ -66,7 +67,8 @@ pub fn of_sheet(sheet: &Sheet, refusal: &Refusal) -> String {
             rules::sentence(sheet, refusal, reason)
         }
         Some(Reason::ClaimNotMargin) => rules::claim_sentence(sheet, refusal.place),
-        Some(reason) => groups::sentence(&sheet.placement, refusal.place, reason),
+        Some(reason) => legs::sentence(&sheet.placement, refusal.place, reason)
+            .or_else(|| groups::sentence(&sheet.placement, refusal.place, reason)),
         None => None,
     };
     sentence.unwrap_or_else(|| refusal.to_string())

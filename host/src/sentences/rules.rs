@@ -6,7 +6,7 @@ use crate::reason::Reason;
 use crate::records::{Leg, Side};
 use crate::refusal::Refusal;
 use crate::sheet::Sheet;
-use crate::text::{leg_text, placed_text};
+use crate::text::{leg_text, placed_text, side_name};
 
 pub fn sentence(sheet: &Sheet, refusal: &Refusal, reason: Reason) -> Option<String> {
     let place = usize::try_from(refusal.place).ok()?;
@@ -65,10 +65,7 @@ fn contracts(sheet: &Sheet, leg: &Leg) -> String {
         let same = legs.iter().filter(|other| other.line() == leg.line() && other.side == leg.side);
         same.map(|other| u64::from(other.contracts)).sum()
     };
-    let side = match leg.side {
-        Side::Long => "long",
-        Side::Short => "short",
-    };
+    let side = side_name(leg.side);
     let held = count(sum(&sheet.holdings), "contract");
     let placed = count(sum(&sheet.placement), "contract");
     format!("of this line the holdings have {held} {side} and the placement has {placed} {side}")

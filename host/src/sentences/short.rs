@@ -32,6 +32,16 @@ pub fn short(refusal: &Refusal, reason: Reason) -> String {
             format!("the {place} claim is not for group {}", refusal.place.saturating_add(1))
         }
         Reason::GroupsMisnumbered => format!("{record} names a group that has no claim"),
+        Reason::UnderlyingsDiffer => format!("{record} has another underlying than its group's first leg"),
+        Reason::StylesDiffer => format!("{record} has another style than its group's first leg"),
+        Reason::MarketsDiffer => format!("{record} has another market than its group's first leg"),
+        Reason::SeriesLongAndShort => format!(
+            "{record} is of a series (type, strike, expiry and unit size) that its group already has on the \
+             other side"
+        ),
+        Reason::ShortOutlivesLong => format!(
+            "{record} is a short that expires after a long of its group, or a long that expires before a short of it"
+        ),
         Reason::ContractsDiffer => {
             format!("{record}: holdings and placement differ in the contracts of its line and side")
         }
@@ -78,15 +88,8 @@ fn ill_formed(root: &str, place: u64) -> String {
 fn of_group(group: u64, reason: Reason) -> String {
     let wrong = match reason {
         Reason::NoLeg => "has no leg, or is not a group from 1 to 32",
-        Reason::UnderlyingsDiffer => "mixes underlyings",
-        Reason::StylesDiffer => "mixes American and European options",
-        Reason::MarketsDiffer => "mixes listed and OTC options",
-        Reason::SeriesLongAndShort => {
-            "is both long and short in one series (type, strike, expiry and unit size)"
-        }
         Reason::CallUnitsUnequal => "has unequal long and short call units",
         Reason::PutUnitsUnequal => "has unequal long and short put units",
-        Reason::ShortOutlivesLong => "has a short that expires after a long",
         Reason::ClaimNotMargin => "claims what is not its margin",
         Reason::NotFitForCash => {
             "is not fit for a cash account: all its legs must be European, stated as cash, and of one expiry"

@@ -6,7 +6,7 @@ use crate::fields::{
     get, Field, CONTRACTS, EXPIRY, GROUP, MARKET, PAID, SETTLEMENT, SIDE, STRIKE, STYLE, TYPE, UNDERLYING,
     UNIT_SIZE,
 };
-use crate::records::{Fill, Leg, Market, Style, RECORD_BYTES};
+use crate::records::{Fill, Leg, Market, Side, Style, RECORD_BYTES};
 
 /// A leg as it stands in the holdings.
 pub fn leg_text(leg: &Leg) -> String {
@@ -46,6 +46,10 @@ pub fn strike_text(mills: u32) -> String {
 /// The number YYYYMMDD as YYYY-MM-DD.
 pub fn date_text(date: u32) -> String {
     format!("{:04}-{:02}-{:02}", date / 10_000, date / 100 % 100, date % 100)
+}
+
+pub fn side_name(side: Side) -> &'static str {
+    name_of(side, SIDES)
 }
 
 pub fn style_name(style: Style) -> &'static str {

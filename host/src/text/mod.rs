@@ -16,7 +16,7 @@ pub use escape::escaped;
 pub(crate) use escape::{escaped_bytes, line_of_bytes};
 pub use fills::{parse_fills, show_fills};
 pub(crate) use line::{
-    date_text, fill_text, leg_text, market_name, placed_text, raw_text, series_text, style_name,
+    date_text, fill_text, leg_text, market_name, placed_text, raw_text, series_text, side_name, style_name,
 };
 pub(crate) use parse::is_section;
 pub use parse::parse;

@@ -35,10 +35,10 @@ fn all_strikes_are_looked_at_not_the_short_ones_only() {
 fn a_short_is_held_against_the_earliest_long() {
     let early = |notation| Leg { expiry: 20110416, ..leg(notation) };
     let late = Leg { expiry: 20110618, ..leg("L70c") };
-    assert_margin(&[times(2, "S60c"), late, early("L70c")], refusal(13, 2, 1));
+    assert_margin(&[times(2, "S60c"), late, early("L70c")], refusal(13, 2, 2));
     assert_margin(&[times(2, "S60c"), early("L70c"), late], refusal(13, 2, 1));
     // A put that expires early counts against a short call, too.
-    assert_margin(&[leg("S60c"), late, early("L50p"), early("S40p")], refusal(13, 2, 1));
+    assert_margin(&[leg("S60c"), late, early("L50p"), early("S40p")], refusal(13, 2, 2));
     assert_margin(&[leg("S60c"), late], Ok(1_000_000));
 }
 
@@ -87,7 +87,7 @@ fn an_unplaced_short_is_refused_though_an_unplaced_long_is_free() {
 #[test]
 fn every_group_is_judged_not_the_first_only() {
     let second = [
-        (vec![leg("L60p"), Leg { underlying: 8, ..leg("S50p") }], refusal(7, 2, 2)),
+        (vec![leg("L60p"), Leg { underlying: 8, ..leg("S50p") }], refusal(7, 2, 3)),
         (vec![leg("L60p"), times(2, "S50p")], refusal(12, 2, 2)),
         (vec![leg("L50p"), leg("S60p")], refusal(16, 3, 2)),
         (vec![], refusal(6, 2, 2)),

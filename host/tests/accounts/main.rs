@@ -14,6 +14,7 @@ mod joining;
 mod limits;
 mod look_right;
 mod minis;
+mod pointing;
 mod salvage;
 mod symbols;
 mod unplaced;

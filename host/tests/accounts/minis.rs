@@ -27,12 +27,12 @@ fn one_unit_size_is_one_series() {
     assert_margin(&[leg("L50c"), leg("S50c")], refusal(10, 2, 1)); // P11 stays
     assert_margin(&[minis(10, "L50c"), minis(10, "S50c")], refusal(10, 2, 1));
     // A second long in the short's own unit size doubles the series, wherever it stands.
-    for legs in [
-        [minis(10, "L50c"), times(2, "S50c"), leg("L50c")],
-        [leg("L50c"), minis(10, "L50c"), times(2, "S50c")],
-        [times(2, "S50c"), leg("L50c"), minis(10, "L50c")],
+    for (legs, place) in [
+        ([minis(10, "L50c"), times(2, "S50c"), leg("L50c")], 2),
+        ([leg("L50c"), minis(10, "L50c"), times(2, "S50c")], 2),
+        ([times(2, "S50c"), leg("L50c"), minis(10, "L50c")], 1),
     ] {
-        assert_margin(&legs, refusal(10, 2, 1));
+        assert_margin(&legs, refusal(10, 2, place));
     }
     // It is looked for before the units are counted.
     assert_margin(&[minis(1, "L50c"), minis(2, "S50c")], refusal(10, 2, 1));
@@ -72,7 +72,7 @@ fn a_box_with_a_mini_against_a_standard_contract_is_no_box() {
     for (same, other) in [("L50c", "S50c"), ("S60c", "L60c"), ("L60p", "S60p"), ("S50p", "L50p")] {
         let with = |other: Leg| [&long_box[..], &[european(leg(same)), european(other)]].concat();
         assert_margin(&with(minis(10, other)), Ok(0));
-        assert_margin(&with(leg(other)), refusal(10, 2, 1));
+        assert_margin(&with(leg(other)), refusal(10, 2, 5));
     }
     // Mixed sizes within the box's own kinds are a box still.
     let mini_box = ["L50c", "S60c", "L60p", "S50p"].map(|notation| european(minis(10, notation)));

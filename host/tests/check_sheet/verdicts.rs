@@ -101,12 +101,25 @@ fn every_line_has_its_sentence() {
              record 12 (the 13th) of the placement is in a group above the number of claims",
         ),
         ("REFUSE 6 2 3", "refused, number 6, table 2 (placement), place 3: group 3 has no leg"),
-        ("REFUSE 7 2 3", "refused, number 7, table 2 (placement), place 3: the underlyings in group 3 differ"),
-        ("REFUSE 8 2 3", "refused, number 8, table 2 (placement), place 3: the styles in group 3 differ"),
-        ("REFUSE 9 2 3", "refused, number 9, table 2 (placement), place 3: the markets in group 3 differ"),
+        (
+            "REFUSE 7 2 3",
+            "refused, number 7, table 2 (placement), place 3: \
+             record 3 (the 4th) of the placement has another underlying than its group's first leg",
+        ),
+        (
+            "REFUSE 8 2 3",
+            "refused, number 8, table 2 (placement), place 3: \
+             record 3 (the 4th) of the placement has another style than its group's first leg",
+        ),
+        (
+            "REFUSE 9 2 3",
+            "refused, number 9, table 2 (placement), place 3: \
+             record 3 (the 4th) of the placement has another market than its group's first leg",
+        ),
         (
             "REFUSE 10 2 3",
-            "refused, number 10, table 2 (placement), place 3: a series is both long and short in group 3",
+            "refused, number 10, table 2 (placement), place 3: \
+             record 3 (the 4th) of the placement is of a series that its group already has on the other side",
         ),
         (
             "REFUSE 11 2 3",
@@ -120,7 +133,9 @@ fn every_line_has_its_sentence() {
         ),
         (
             "REFUSE 13 2 3",
-            "refused, number 13, table 2 (placement), place 3: a short of group 3 expires after one of its longs",
+            "refused, number 13, table 2 (placement), place 3: \
+             record 3 (the 4th) of the placement is a short that expires after a long of its group, \
+             or a long that expires before a short of it",
         ),
         (
             "REFUSE 14 1 255",

@@ -4,10 +4,11 @@
 use std::collections::{BTreeMap, BTreeSet};
 use std::fmt::Display;
 
-use usm::fields::records;
+use usm::fields::{get, records, GROUP};
 use usm::{
-    check_file, check_table, export, import, move_to_new, move_to_old, play_fills, Claim, Form, Leg,
-    OptionType, Origin, PlayCounts, Sheet, Side, Style, Table, Tables, LONGEST_LIST, MOST_WORK, RECORD_BYTES,
+    check_file, check_table, export, import, margin, move_to_new, move_to_old, play_fills, Claim, Form, Leg,
+    OptionType, Origin, PlayCounts, Refusal, Sheet, Side, Style, Table, Tables, LONGEST_LIST, MOST_WORK,
+    RECORD_BYTES,
 };
 
 use crate::files;
@@ -50,6 +51,19 @@ pub fn margins_cover_every_price(case: &dyn Display, random: &mut Random, sheet:
         let net: i128 = legs.map(|leg| value(leg, prices[&leg.underlying], d)).sum();
         assert!(-net <= d * i128::from(claim.margin), "{case}: group {} is not covered", claim.group);
     }
+}
+
+/// Cut off before the leg that is pointed at, a placement does not have this refusal; cut off behind it, it has it,
+/// unless 13 is hidden by units that later legs would balance.
+pub fn the_leg_breaks_it(case: &dyn Display, placement: &[u8], group: u64, refusal: &Refusal) {
+    let at = refusal.place as usize;
+    assert_eq!(get(placement, at, GROUP), group, "{case}: record {at} is no leg of group {group}");
+    let cut_off = |records: usize| margin(&placement[..records * RECORD_BYTES], group);
+    let before = cut_off(at).err().map(|refusal| refusal.number);
+    assert_ne!(before, Some(refusal.number), "{case}: the legs before record {at} break it");
+    let behind = cut_off(at + 1).expect_err("the legs up to and with it are no spread");
+    let hidden = refusal.number == 13 && [11, 12].contains(&behind.number);
+    assert!(hidden || behind == *refusal, "{case}: {behind:?} up to and with record {at}");
 }
 
 /// No accepted sheet is more work than the most there is.

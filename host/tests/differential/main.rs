@@ -17,6 +17,7 @@ mod files;
 mod fills;
 mod joining;
 mod laws;
+mod pointing;
 mod random;
 mod salvage;
 mod sheets;
@@ -28,9 +29,10 @@ mod values;
 mod worlds;
 mod wrapper;
 
-use cases::run;
+use cases::{run, Tally};
 use tries::{try_file, try_tables};
-use usm::leg_table;
+use usm::fields::{get, SIDE};
+use usm::{leg_table, model, Side, MOST_LEGS};
 
 /// Every answer but 2, which tables cannot bring about: their files are sealed.
 const ALL_BUT_DAMAGE: [usize; 19] = [0, 1, 3, 4, 5, 6, 7, 8, 9, 10, 11, 12, 13, 14, 15, 16, 17, 20, 21];
@@ -123,6 +125,40 @@ fn cash_groups() {
         }
         try_tables(case, random, &sheet.tables(), tally);
     });
+}
+
+/// Groups that break 7, 8, 9, 10 or 13 on purpose. What is counted are these refusals where they point at a leg of
+/// this side, and at a record that is not the group's number.
+fn pointed_legs(family: &'static str, side: Side) {
+    run(family, 4, &pointing::NUMBERS.map(|number| number as usize), |case, random, tally| {
+        let (sheet, group) = pointing::sheet(random);
+        let (mut tables, group) = (sheet.tables(), u64::from(group));
+        if random.one_in(8) {
+            faults::one(random, &mut tables);
+        }
+        compare::margin(case, &tables.placement, group);
+        compare::cash(case, &tables.placement, group);
+        compare::worksheet(case, &tables.placement, group, MOST_LEGS, MOST_LEGS);
+        try_tables(case, random, &tables, &mut Tally::default());
+        let refusal = model::margin(&tables.placement, group).err();
+        if let Some(refusal) = refusal.filter(|refusal| pointing::NUMBERS.contains(&refusal.number)) {
+            laws::the_leg_breaks_it(case, &tables.placement, group, &refusal);
+            let pointed = get(&tables.placement, refusal.place as usize, SIDE);
+            if pointed == side as u64 && refusal.place != group {
+                tally.count(refusal.number);
+            }
+        }
+    });
+}
+
+#[test]
+fn pointed_longs() {
+    pointed_legs("pointed_longs", Side::Long);
+}
+
+#[test]
+fn pointed_shorts() {
+    pointed_legs("pointed_shorts", Side::Short);
 }
 
 /// Days of fills. What is counted are the answers of the call and the numbers that it lists.

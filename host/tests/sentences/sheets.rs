@@ -41,12 +41,19 @@ fn case(name: &str, sheet: Sheet) -> Case {
 pub fn groups() -> Vec<Case> {
     let no_spread = |name, legs: &[Leg]| case(name, placed(legs, &[0]));
     let unplaced = in_group(0, leg("L90p"));
+    let early = Leg { expiry: 20100522, ..leg("L70c") };
+    let of_9 = Leg { underlying: 9, ..in_group(2, leg("S50p")) };
     vec![
         case("a claim without a leg", placed(&[leg("L60c"), leg("S50c")], &[1_000_000, 0])),
         no_spread("underlyings", &[unplaced, leg("L60c"), Leg { underlying: 8, ..leg("S50c") }]),
+        case(
+            "underlyings of group 2",
+            placed(&[leg("L60c"), unplaced, in_group(2, leg("L60p")), leg("S50c"), of_9], &[1_000_000, 0]),
+        ),
         no_spread("styles", &[leg("L60c"), unplaced, Leg { style: Style::European, ..leg("S50c") }]),
         no_spread("markets", &[leg("L60c"), Leg { market: Market::Otc, ..leg("S50c") }]),
         no_spread("long and short one series", &[leg("L60c"), leg("S50c"), leg("S60c"), leg("L50p")]),
+        no_spread("short and long one series", &[leg("S60c"), unplaced, leg("L60c"), leg("L60c")]),
         no_spread(
             "long and short one series of minis",
             &[Leg { unit_size: 10, ..leg("L60c") }, leg("S60c"), Leg { unit_size: 10, ..leg("S60c") }],
@@ -55,12 +62,9 @@ pub fn groups() -> Vec<Case> {
         no_spread("put units", &[Leg { unit_size: 10, ..leg("L60p") }, leg("S50p")]),
         no_spread(
             "a short outlives a long",
-            &[
-                times(2, "S60c"),
-                Leg { expiry: 20100522, ..leg("L70c") },
-                Leg { expiry: 20110618, ..leg("L70c") },
-            ],
+            &[times(2, "S60c"), early, Leg { expiry: 20110618, ..leg("L70c") }],
         ),
+        no_spread("a short outlives a long before it", &[unplaced, early, leg("S60c")]),
     ]
 }
 

@@ -41,6 +41,21 @@ group  3   500000 mills    $500.000
 }
 
 #[test]
+fn the_leg_is_told_that_keeps_a_group_from_being_a_spread() {
+    let folder = folder("tool-leg");
+    let legs = [leg("L60c"), in_group(2, leg("S50c")), leg("S50c"), in_group(2, leg("L50c"))];
+    let file = placed(&legs, &[]).to_file().expect("a file");
+    let sentence = "no spread, refusal 10: the 4th record of the placement (`group 2 long 1 call 50.000 2011-05-21 \
+        unit 100 underlying 7 american listed`): it is long call 50.000 2011-05-21 unit 100, and group 2 is short \
+        that series since the 2nd record (`group 2 short 1 call 50.000 2011-05-21 unit 100 underlying 7 american \
+        listed`)\n";
+    let printed = format!("group  1  1000000 mills  $1,000.000\ngroup  2  {sentence}");
+    assert_eq!(told(run(&folder, &["margins", "-"], &file)), (1, printed, String::new()));
+    let refused = (1, String::new(), format!("-: {sentence}"));
+    assert_eq!(told(run(&folder, &["worksheet", "-", "2"], &file)), refused);
+}
+
+#[test]
 fn a_worksheet_has_a_row_for_each_strike() {
     let folder = folder("tool-worksheet");
     let legs: [Leg; 4] = [leg("L50p"), leg("S60p"), leg("S65c"), leg("L70c")];

@@ -128,15 +128,14 @@ fn what_the_library_refuses_is_told_in_its_sentence_and_writes_nothing() {
     let folder = folder("tool-join-refused");
     write_inputs(&folder);
     let inputs = names_in(&folder);
-    let mixed = "mixed.usm: groups 2 and 1 put into one are no spread, refusal 7: group 1 mixes underlyings: 7 in the \
-                 1st record of the placement (`group 1 long 1 call 60.000 2011-05-21 unit 100 underlying 7 american \
-                 listed`), 8 in the 3rd (`group 1 long 1 call 60.000 2011-05-21 unit 100 underlying 8 american \
-                 listed`)\n";
+    let mixed = "mixed.usm: groups 2 and 1 put into one are no spread, refusal 7: the 3rd record of the placement \
+                 (`group 1 long 1 call 60.000 2011-05-21 unit 100 underlying 8 american listed`): its underlying \
+                 is 8, that of group 1 is 7 since the 1st record\n";
     let cases: &[(&[&str], i32, &str)] = &[
         (
             &["in.usm", "1", "2", "out"],
             1,
-            "in.usm: groups 1 and 2 put into one are no spread, refusal 10: group 1 is both long and short put ",
+            "in.usm: groups 1 and 2 put into one are no spread, refusal 10: the 6th record of the placement (`group 1 ",
         ),
         (&["mixed.usm", "2", "1", "out"], 1, mixed),
         (&["in.usm", "1", "5", "out"], 1, "in.usm: no spread, refusal 6: group 5 has no leg in the placement\n"),

@@ -7,9 +7,18 @@ use crate::accepted::settled;
 use crate::changes;
 use crate::list::{changed, iron_condor, sample, Sample};
 
-/// Groups that are no spread (10 to 13).
+/// Groups that are no spread (7 to 13).
 pub fn no_spreads() -> Vec<Sample> {
+    let [long_put, short_put, short_call, long_call] = iron_condor(2);
     vec![
+        sample(
+            "leg-of-another-underlying",
+            "Group 2 is of underlying 7, and its second leg, the 4th record, of underlying 8.",
+            placed(
+                &[long_put, short_put, short_call, Leg { underlying: 8, ..long_call }],
+                &[1_000_000, 500_000],
+            ),
+        ),
         sample(
             "contracts-balance-units-do-not",
             "One contract of unit 10 against one of unit 100: \

@@ -5,6 +5,7 @@ use lib.Seq.{length-take-le}
 use borrow.Author.Needs.{needs}
 use Rattle.records.specs.declared.legs.Leg.{Leg}
 use Rattle.spreads.proofs.CashLaws.{cashDue}
+use Rattle.spreads.proofs.MemberLaws.{members-are}
 use Rattle.spreads.proofs.cash_accounts.group_cash.Statement.{statement}
 use Rattle.spreads.proofs.cash_accounts.group_cash.Tie as tie
 
@@ -16,7 +17,7 @@ returns : tie.Need-returns
 returns c =
     let f = c .before .before .before in
     let s = f .before .before .before .before in
-    c .members-cash .ensures ∙ ap (λ (legs : List Leg). cashDue (s .args .g) legs) (f .find-members .ensures .1)
+    c .members-cash .ensures ∙ ap (λ (legs : List Leg). cashDue (s .args .g) legs) (members-are _ _ (f .find-members .ensures .1))
 
 pub group-cash-spec : {M : Type 1} → statement M
 group-cash-spec =

@@ -3,7 +3,6 @@ use native.Mathlib.Omega.{arith}
 use lib.Seq.{length-take-le}
 use borrow.Author.Needs.{needs}
 use Rattle.spreads.proofs.SearchLaws.{marks-taken}
-use Rattle.spreads.proofs.PairLaws.{clear-is}
 use Rattle.spreads.proofs.pairs.doubled_with.Statement.{statement}
 use Rattle.spreads.proofs.pairs.doubled_with.Tie as tie
 
@@ -15,12 +14,6 @@ slice-aggregate-first-doubled c =
 first-doubled-requires : tie.Need-first-doubled-requires
 first-doubled-requires c κs = marks-taken _ _ _ (c .before .before .before .copy-marks .ensures)
 
-returns : tie.Need-returns
-returns c = rw (← clear-is _, ← c .before .before .first-doubled .ensures, c .enum-told .given .1)
-
-returns-2 : tie.Need-returns-2
-returns-2 c = rw (← clear-is _, ← c .before .before .first-doubled .ensures, c .enum-told2 .given .1)
-
 pub doubled-with-spec : {M : Type 1} → statement M
 doubled-with-spec =
     tie.close
@@ -30,8 +23,4 @@ doubled-with-spec =
     slice-aggregate-first-doubled
     first-doubled-requires
     (λ c. search needs)
-    (λ c. search needs)
-    (λ c. search needs)
-    returns
-    (λ c. search needs)
-    returns-2)
+    (λ c. search needs))
