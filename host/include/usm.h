@@ -45,16 +45,19 @@
  * stack behave is tested, in C and in C++, on each build of the library.
  *
  * REFUSALS by number, with table and place (blocks, records, roots and lines count from 0, groups from
- * 1). 1 to 16 are looked for in this order, 20 after 3 in each block, 21 after 13; 17, 19 and 22 to 24 as
- * told at each call.
+ * 1). 1 to 16 are looked for in this order, but by usm_import and usm_export, 20 after 3 in each block, 21
+ * after 13; 17, 19 and 22 to 24 as told at each call.
  *
  *    1  a table not whole records or over its limit; a file empty, not whole
- *       blocks or over 39; nothing to write                       0, 0
+ *       blocks or over 39; nothing to write; a list of more
+ *       than 256 lines                                            0, 0
  *    2  a block's check A or B differs; or nothing is kept        0, block;
  *       by usm_salvage                                            or 0, 0
  *    3  any other fault of a block's form; or kept records        0, block;
  *       over a table's limit, or a move from the wrong form       or 0, 0
- *    4  a field out of range                                      table, record
+ *    4  a field out of range                                      table, record;
+ *                                                                 or 6, line; of a binary
+ *                                                                 option 0, 0 or 0, 1
  *    5  a claim not for group (record + 1); or a placed record
  *       with a group above the number of claims                   3 or 2, record
  *    6  the group has no leg, or is not 1 to 32                   2, group

@@ -1,7 +1,7 @@
 //! Lists of option symbols as members send them, the roots that they are read by, and holdings to be listed.
 
 use usm::text::{parse_roots, show_holdings};
-use usm::{holdings_of_list, Leg, Style};
+use usm::{holdings_of_list, Leg, Style, MOST_LINES};
 
 /// Roots that every list of the samples is read by; the last one leaves its settlement open.
 const ROOTS: &str = "\
@@ -54,12 +54,13 @@ pub fn texts() -> Result<Vec<(&'static str, String)>, String> {
     let holdings = holdings_of_list(&roots, LIST.as_bytes()).map_err(|refusal| refusal.to_string())?;
     let paid = Leg { paid: true, ..holdings[0] };
     let european = Leg { style: Style::European, ..holdings[0] };
-    let held = [
+    let made = [
         ("holdings.txt", show_holdings(&holdings)),
         ("held-paid.txt", show_holdings(&[holdings[1], paid])),
         ("held-without-root.txt", show_holdings(&[european, holdings[1]])),
+        ("too-many-lines.txt", "AAPL  110521C00060000 L 1\n".repeat(MOST_LINES + 1)),
     ];
     let given =
         [("roots.txt", ROOTS), ("list.txt", LIST)].into_iter().chain(REFUSED_LISTS).chain(REFUSED_ROOTS);
-    Ok(given.map(|(name, text)| (name, String::from(text))).chain(held).collect())
+    Ok(given.map(|(name, text)| (name, String::from(text))).chain(made).collect())
 }
