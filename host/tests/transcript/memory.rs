@@ -1,16 +1,12 @@
-//! What the script's commands change: three tables, a day's fills and a file.
+//! What the transcript's commands change: three tables, a day's fills and a file.
+
+use std::str::FromStr;
 
 use usm::block::{seal, BLOCK_BYTES};
 use usm::fields::*;
 use usm::{Table, RECORD_BYTES};
 
-/// The fields of a leg, a fill and a claim, in the order in which the script gives them.
-const LEG: [Field; 10] = [GROUP, SIDE, TYPE, STYLE, MARKET, UNIT_SIZE, UNDERLYING, STRIKE, EXPIRY, CONTRACTS];
-const FILL: [Field; 11] =
-    [GROUP, SIDE, TYPE, STYLE, MARKET, UNIT_SIZE, UNDERLYING, STRIKE, EXPIRY, CONTRACTS, ACTION];
-const CLAIM: [Field; 2] = [GROUP, CLAIM_MARGIN];
-/// The fields of a leg or a fill whose numbers may follow.
-const MAY_FOLLOW: [Field; 2] = [SETTLEMENT, PAID];
+use crate::notation::{legs, set};
 
 #[derive(Default)]
 pub struct Memory {
@@ -29,6 +25,22 @@ pub fn table_named(letter: &str) -> Result<Table, String> {
         "c" => Ok(Table::Claims),
         _ => Err(format!("`{letter}` is none of h, p and c")),
     }
+}
+
+pub fn number<T: FromStr>(word: &str) -> Result<T, String> {
+    word.parse().map_err(|_| format!("`{word}` is no number that fits here"))
+}
+
+/// Claims: a group and a margin each.
+fn claims(words: &[&str]) -> Result<Vec<u8>, String> {
+    if words.is_empty() || words.len() % 2 != 0 {
+        return Err(format!("a group and a margin each, not {} numbers", words.len()));
+    }
+    let mut table = vec![0; words.len() / 2 * RECORD_BYTES];
+    for (record, claim) in words.chunks_exact(2).enumerate() {
+        set(&mut table, record, &[(GROUP, number(claim[0])?), (CLAIM_MARGIN, number(claim[1])?)])?;
+    }
+    Ok(table)
 }
 
 impl Memory {
@@ -68,26 +80,15 @@ impl Memory {
         Ok(())
     }
 
-    /// Appends a record of these numbers.
-    pub fn append(&mut self, letter: &str, numbers: &[u64]) -> Result<(), String> {
-        let (fields, may_follow) = match letter {
-            "c" => (&CLAIM[..], &[][..]),
-            "d" => (&FILL[..], &MAY_FOLLOW[..]),
-            _ => (&LEG[..], &MAY_FOLLOW[..]),
+    /// Appends the records that these words say.
+    pub fn append(&mut self, command: &str, words: &[&str]) -> Result<(), String> {
+        let (letter, records) = match command {
+            "c" => ("c", claims(words)?),
+            "open" => ("d", legs(&[(ACTION, 1)], words)?),
+            "close" => ("d", legs(&[(ACTION, 2)], words)?),
+            table => (table, legs(&[], words)?),
         };
-        let (least, most) = (fields.len(), fields.len() + may_follow.len());
-        if !(least..=most).contains(&numbers.len()) {
-            let range = if least == most { least.to_string() } else { format!("{least} to {most}") };
-            return Err(format!("a record of {range} numbers, not of {}", numbers.len()));
-        }
-        let mut record = [0; RECORD_BYTES];
-        for (&field, &number) in fields.iter().chain(may_follow).zip(numbers) {
-            put(&mut record, 0, field, number);
-            if get(&record, 0, field) != number {
-                return Err(format!("{number} does not fit in {} bytes", field.1));
-            }
-        }
-        self.records(letter)?.extend_from_slice(&record);
+        self.records(letter)?.extend_from_slice(&records);
         Ok(())
     }
 

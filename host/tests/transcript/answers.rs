@@ -1,4 +1,4 @@
-//! The calls that the script's commands make, and what is printed of each answer.
+//! The calls that the transcript's questions make, and what is said of each answer.
 
 use usm::both::Calls;
 use usm::fields::{get, put, records, CONTRACTS, PAID, SIDE, STRIKE, TYPE};
@@ -88,10 +88,13 @@ pub fn file(calls: &Calls, memory: &Memory) -> String {
     verdict
 }
 
-/// The table's lines stand below the command's; that nothing else of the lent bytes changes is tried for
-/// every call by the differential tests.
+/// The table's lines. Their bytes, and that nothing else of the lent ones changes, are tried for every call by the
+/// differential tests.
 pub fn table(calls: &Calls, memory: &Memory) -> String {
-    format!("{}\n{}", kept(true), (calls.file_table)(&memory.file)).trim_end().to_string()
+    match (calls.file_table)(&memory.file).trim_end() {
+        "" => String::from("nothing"),
+        lines => String::from(lines),
+    }
 }
 
 /// The tables as a file of this form and account, by their numbers.
