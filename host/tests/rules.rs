@@ -10,7 +10,8 @@ use usm::accounts::{leg, placed};
 use usm::both::BOTH;
 use usm::{claim_table, leg_table, Claim, Reason, Refusal, Sheet, Table};
 
-const PAGES: [&str; 3] = ["README.md", "docs/RULES.md", "docs/ARCHITECTURE.md"];
+const PAGES: [&str; 4] =
+    ["README.md", "docs/RULES.md", "docs/ARCHITECTURE.md", "host/tests/transcript/README.md"];
 
 fn root() -> PathBuf {
     Path::new(env!("CARGO_MANIFEST_DIR")).join("..")
@@ -59,6 +60,14 @@ fn has_word(text: &str, word: &str) -> bool {
     })
 }
 
+/// Whether a name is that of a case of a transcript, or of the transcript itself.
+fn has_case(transcript: &Path, name: &str) -> bool {
+    let text = fs::read_to_string(transcript).unwrap_or_default();
+    let case = name.trim_matches('`');
+    let begins = |line: &str| ["== ", "-- "].iter().any(|mark| line.strip_prefix(mark) == Some(case));
+    text.lines().any(begins) || transcript.file_name().map_or(false, |file| file == name)
+}
+
 /// What is wrong with a link of a page, or nothing.
 fn stale(page: &str, name: &str, target: &str) -> Option<String> {
     if target.contains("://") {
@@ -68,6 +77,9 @@ fn stale(page: &str, name: &str, target: &str) -> Option<String> {
     let file = folder.join(target.split('#').next().expect("a path"));
     if !file.exists() {
         return Some(format!("[{name}]({target}): there is no such file"));
+    }
+    if target.contains("tests/transcript/") && target.ends_with(".txt") {
+        return (!has_case(&file, name)).then(|| format!("[{name}]({target}): no case of that name"));
     }
     let word = name.strip_prefix('`')?.strip_suffix('`')?;
     let text = fs::read_to_string(&file).unwrap_or_default();
@@ -95,6 +107,13 @@ fn a_stale_link_is_told() {
     assert!(told.ends_with("`firstO` does not stand in that file"), "{told}");
     let told = stale("docs/RULES.md", "gone", "../crates/gone.rt").expect("no file");
     assert_eq!(told, "[gone](../crates/gone.rt): there is no such file");
+    let legs = "../host/tests/transcript/legs.txt";
+    assert!(stale("docs/RULES.md", "`side: 1 or 2`", legs).is_none());
+    assert!(stale("docs/RULES.md", "legs.txt", legs).is_none());
+    for name in ["`side: 1`", "stdin", "`try h L50c -> 1`"] {
+        let told = stale("docs/RULES.md", name, legs).expect("no case");
+        assert_eq!(told, format!("[{name}]({legs}): no case of that name"));
+    }
 }
 
 #[test]

@@ -85,7 +85,7 @@ unfolding singleCall
 single-most side spread valuation expiry contracts n e =
     let r = required-mills (firstOf (singleChecks spread valuation expiry contracts)) (marginOf side spread valuation expiry contracts) n e in
     let few = single-clear spread valuation expiry contracts (r .0) in
-    omega (arith, margin-most side spread valuation expiry contracts (few .1), side-most side, r .1)
+    omega (arith, margin-most side spread valuation expiry contracts (few .2), side-most side, r .1)
 
 pub pair-most : PairMost
 unfolding pairCall
@@ -97,8 +97,8 @@ pair-most valuation long short n e =
       arith,
       r .1,
       pair-costs-no-more valuation long short,
-      margin-most Long (p .spread) valuation (p .expiry) (p .contracts) (few .1),
+      margin-most Long (p .spread) valuation (p .expiry) (p .contracts) (few .1 .0 .1),
       long-most,
-      margin-most Short (short .spread) valuation (short .expiry) (short .contracts) (few .2),
+      margin-most Short (short .spread) valuation (short .expiry) (short .contracts) (few .1 .1 .1),
       short-most,
     )

@@ -102,6 +102,15 @@ missing-day-unseen years date expiry r = go (isMissing (sameDay years date)) ref
 
 -- ---- columns
 
+-- for a real expiry years may be counted to the same month and day
+pub column-plain : (valuation expiry : ℕ) → realDate expiry ≡ true → columnOf valuation expiry ≡
+    cond (leb expiry (sameDay 1 valuation)) 0
+    (cond (leb expiry (sameDay 3 valuation)) 1
+    (cond (leb expiry (sameDay 7 valuation)) 2 3))
+unfolding columnOf
+column-plain valuation expiry r =
+    rw (missing-day-unseen 1 valuation expiry r, missing-day-unseen 3 valuation expiry r, missing-day-unseen 7 valuation expiry r)
+
 pub column-few : (valuation expiry : ℕ) → columnOf valuation expiry ≤ 3
 unfolding columnOf
 column-few valuation expiry =

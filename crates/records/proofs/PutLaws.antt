@@ -29,6 +29,12 @@ module _ {A : Type 0} where
   unfolding putAt
   length-putAt d at s h = simp (length-append, length-take, length-drop) (omega arith)
 
+  -- what stands before it stays
+  pub before-put : (d : List A) (at : ℕ) (s : List A) → at ≤ length d → take at (putAt d at s) ≡ take at d
+  unfolding putAt
+  before-put d at s h =
+      rw (append-assoc (take at d) s (drop (at + length s) d)) (take-at (take at d) (s ++ drop (at + length s) d) at (length-take-le at d h))
+
   -- what is written after a front that is written already
   pub put-after : (p s d : List A) (at : ℕ) → length p ≡ at → putAt (p ++ drop at d) at s ≡ p ++ s ++ drop (at + length s) d
   unfolding putAt

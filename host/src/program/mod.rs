@@ -2,6 +2,7 @@
 //! overwritten unasked.
 
 mod names;
+mod streams;
 mod write;
 
 use std::ffi::OsString;
@@ -9,6 +10,7 @@ use std::io::{self, Write};
 use std::process::ExitCode;
 
 pub use names::shown;
+pub use streams::Stream;
 pub use write::write;
 
 /// Runs a program on its arguments. Work that could not be done ends with its message on

@@ -142,7 +142,7 @@ fn the_header_and_the_rust_declarations_name_the_same_calls() {
 #[test]
 fn the_c_programs_make_every_call_of_the_header() {
     let header = calls_named_in(HEADER);
-    for program in [include_str!("../../c/example.c"), include_str!("../../c/stack.c")] {
+    for program in [include_str!("../../c/example.c"), include_str!("../../c/full.h")] {
         assert_eq!(header, calls_named_in(program));
     }
     // Where no slice stands there is none that could be empty.

@@ -9,4 +9,5 @@ mod common;
 mod compiled;
 mod header;
 mod install;
+mod memory;
 mod programs;

@@ -1,4 +1,4 @@
-//! The proved programs, `usm_check` and `usm_table`, and the samples they are tried on.
+//! The proved programs, `usm_check`, `usm_table` and `bench`, and the samples they are tried on.
 
 use std::fs;
 use std::io::Write;
@@ -7,9 +7,9 @@ use std::process::Stdio;
 use std::thread::sleep;
 use std::time::Duration;
 
-/// The program of this name: where the variable of its name in capitals says, or where `rt check` puts it.
+/// The program of this name: where `USM_CHECK`, `USM_TABLE` or `USM_BENCH` says, or where `rt check` puts it.
 fn built(name: &str) -> PathBuf {
-    let variable = name.to_uppercase();
+    let variable = format!("USM_{}", name.trim_start_matches("usm_").to_uppercase());
     let built = Path::new(env!("CARGO_MANIFEST_DIR")).join("../target/bin").join(name);
     let program = std::env::var_os(&variable).map_or(built, PathBuf::from);
     assert!(

@@ -1,30 +1,97 @@
-//! The gate's `.ci/edits`, over a stand-in for the check: what counts as refused, and that nothing else does.
+//! The gate's `.ci/edits`, over a stand-in for the check: what counts as refused, and that nothing else does; and
+//! `.ci/all-edits`.
 
 #![forbid(unsafe_code)]
 
-mod clone;
 #[path = "../common/scripts.rs"]
 mod scripts;
-mod together;
 
 use std::fs;
-use std::os::unix::fs::symlink;
+use std::path::{Path, PathBuf};
+use std::process::{Command, Stdio};
 
-use clone::{ending, Clone, CODE};
-use scripts::put_script;
+use scripts::{put_script, put_tools, told, Folder, Told};
 
-/// One edit by itself: what is said of it, after its name, and the ending.
-fn tried(name: &str, edit: &str) -> (String, String, i32) {
-    let run = Clone::with(name, &[("it", edit)]).run(&[]);
-    let (last, status) = ending(&run);
-    let said = run.out.lines().find_map(|line| line.strip_prefix("edits: above/it: "));
-    (String::from(said.expect("a line on the edit")), String::from(last), status)
+const TOOLS: [&str; 15] = [
+    "bash", "cat", "cp", "cut", "dirname", "grep", "mkdir", "mktemp", "mv", "rm", "sed", "sort", "tee", "tr",
+    "xargs",
+];
+
+/// Proves every code but one that has the word wrong, does not understand one that has the word torn, and says
+/// whether it was handed the parts that the library carries.
+const CHECK: &str = r#"code=$(cat crates/*/src/lib.rt)
+if [ "$1" = dev ]; then
+    [ ! -f "target/inc/$2/build_1/part" ] || echo taken over
+    case $code in *torn*) exit 2 ;; esac
+fi
+case $code in *wrong*) echo logic=not-proved; exit 1 ;; *) echo logic=proved ;; esac"#;
+
+const CODE: &str = "one\nright & \\1 right-hand\n";
+
+/// A repository of one crate, proved, whose wrong answers are these edits.
+struct Clone {
+    folder: Folder,
 }
 
-/// Whether an edit by itself is bad, for the reason given.
-fn is_bad(name: &str, edit: &str, reason: &str) {
-    let expected = (format!("BAD EDIT: {reason}"), String::from("0 passed, 1 failed"), 1);
-    assert_eq!(tried(name, edit), expected, "{edit}");
+impl Clone {
+    fn with(name: &str, edits: &[(&str, &str)]) -> Clone {
+        let clone = Clone { folder: Folder::new(&format!("edits-{name}")) };
+        let root = Path::new(env!("CARGO_MANIFEST_DIR")).join("..");
+        for script in [".ci/edits", ".ci/all-edits"] {
+            clone.put(script, "");
+            fs::copy(root.join(script), clone.beside(script)).expect("a script");
+        }
+        clone.put("crates.txt", "it:\n");
+        clone.put("crates/it/src/lib.rt", CODE);
+        clone.put("crates/it/proofs/Lib.antt", "one\n");
+        clone.put("target/rlib/it.rlib/format", "rattle rlib\nrattle-build build/1\n");
+        clone.put("target/rlib/it.rlib/toolchain/checked/part", "part\n");
+        for (name, text) in edits {
+            clone.put(&edit_path(name), text);
+        }
+        put_tools(&clone.beside("tools"), &TOOLS);
+        put_script(&clone.beside("tools/rt"), CHECK);
+        clone
+    }
+
+    fn beside(&self, name: &str) -> PathBuf {
+        self.folder.0.join(name)
+    }
+
+    fn put(&self, name: &str, text: &str) {
+        let file = self.beside(name);
+        fs::create_dir_all(file.parent().expect("it stands in a folder")).expect("a folder");
+        fs::write(file, text).expect("a file");
+    }
+
+    fn text(&self, name: &str) -> String {
+        fs::read_to_string(self.beside(name)).expect("a file")
+    }
+
+    fn run(&self, script: &str, arguments: &[&str]) -> Told {
+        let mut command = Command::new(self.beside(script));
+        command.env_clear().env("PATH", self.beside("tools")).env("TMPDIR", self.beside("tools"));
+        told(command.args(arguments).stdin(Stdio::null()).output().expect("the script runs"))
+    }
+
+    /// What is said of the edits, without the times, and the last line and the status.
+    fn tried(&self, arguments: &[&str]) -> (Vec<String>, String, i32) {
+        let run = self.run(".ci/edits", arguments);
+        let mut said: Vec<String> = run.out.lines().map(String::from).collect();
+        let last = said.pop().expect("a last line");
+        let untimed = |line: String| String::from(line.rsplit_once(" (").expect("a time").0);
+        let mut said: Vec<String> = said.into_iter().map(untimed).collect();
+        said.sort();
+        (said, last, run.status)
+    }
+}
+
+fn edit_path(name: &str) -> String {
+    format!("crates/it/must-fail/wrong-answers/{name}.edit")
+}
+
+fn expected(said: &[&str], last: &str, status: i32) -> (Vec<String>, String, i32) {
+    (said.iter().map(|words| format!("edits: it/{words}")).collect(), String::from(last), status)
 }
 
 const WRONG: &str = "file: src/lib.rt\nold: one\nnew: wrong\n";
@@ -33,90 +100,79 @@ const HARMLESS: &str = "file: src/lib.rt\nold: one\nnew: two\n";
 #[test]
 fn refused_edits_pass_and_the_crate_stays_as_it_was() {
     let two = "# a comment\nfile: src/lib.rt\nold: one\nnew:\nold: right & \\1\nnew: wrong & \\1";
-    let clone = Clone::with("refused", &[("first", two), ("unedited", WRONG)]);
-    assert_eq!(ending(&clone.run(&[])), ("2 passed, 0 failed", 0));
-    assert_eq!(clone.text("crates/above/src/lib.rt"), CODE);
-    for name in ["first", "unedited"] {
-        let log = clone.text(&format!("target/edits/above/{name}.log"));
-        assert_eq!(log, "taken over\nlogic=not-proved\n", "over the parts of the unedited crate");
+    let clone = Clone::with("refused", &[("first", two), ("second", WRONG)]);
+    assert_eq!(clone.tried(&[]), expected(&["first: refused", "second: refused"], "2 passed, 0 failed", 0));
+    assert_eq!(clone.text("crates/it/src/lib.rt"), CODE);
+    for name in ["first", "second"] {
+        let log = clone.text(&format!("target/edits/it/{name}.log"));
+        assert_eq!(log, "taken over\nlogic=not-proved\n", "over the parts that the library carries");
     }
-    assert_eq!(clone.text("target/edits/above.unedited.log"), "logic=proved\n");
-    assert_eq!(ending(&clone.run(&["--from-nothing", "above"])), ("2 passed, 0 failed", 0));
-    assert_eq!(clone.text("target/edits/above/first.log"), "logic=not-proved\n");
-    let left: Vec<_> = fs::read_dir(clone.beside("target")).expect("a folder").collect();
-    assert_eq!(left.len(), 3, "what is proved, and the logs: {left:?}");
+    let left = fs::read_dir(clone.beside("target")).expect("a folder").count();
+    assert_eq!(left, 3, "what is proved, and the logs");
+    let one = clone.tried(&[&edit_path("second")]);
+    assert_eq!(one, expected(&["second: refused"], "1 passed, 0 failed", 0));
 }
 
 #[test]
-fn the_unedited_crate_takes_over_what_its_library_carries() {
-    let clone = Clone::with("library", &[("it", WRONG)]);
-    clone.put("target/rlib/above.rlib/toolchain/checked/part", "part\n");
-    assert_eq!(ending(&clone.run(&[])), ("1 passed, 0 failed", 0));
-    assert_eq!(clone.text("target/edits/above.unedited.log"), "taken over\nlogic=proved\n");
-}
-
-#[test]
-fn an_edit_that_is_still_proved_fails() {
-    let (said, last, status) = tried("proved", HARMLESS);
-    assert_eq!(said, "NOT REFUSED: the crate is still proved with this edit");
-    assert_eq!((last.as_str(), status), ("0 passed, 1 failed", 1));
-}
-
-#[test]
-fn what_an_earlier_run_found_does_not_count() {
-    let clone = Clone::with("earlier", &[("it", WRONG)]);
-    assert_eq!(ending(&clone.run(&[])), ("1 passed, 0 failed", 0));
-    clone.put("crates/above/must-fail/more/it.edit", HARMLESS);
-    assert_eq!(ending(&clone.run(&[])), ("0 passed, 1 failed", 1));
-}
-
-#[test]
-fn an_edit_that_the_prover_never_sees_fails() {
-    for word in ["torn", "below"] {
-        let (said, last, status) = tried(word, &format!("file: src/lib.rt\nold: one\nnew: {word}\n"));
-        assert!(said.starts_with("BAD EDIT: it did not reach the prover"), "{said}");
-        assert_eq!((last.as_str(), status), ("0 passed, 1 failed", 1));
-    }
+fn an_edit_that_is_still_proved_or_never_reaches_the_prover_fails() {
+    let torn = "file: src/lib.rt\nold: one\nnew: torn\n";
+    let clone = Clone::with("proved", &[("harmless", HARMLESS), ("torn", torn), ("wrong", WRONG)]);
+    let said = [
+        "harmless: NOT REFUSED: the crate is still proved with this edit",
+        "torn: BAD EDIT: it did not reach the prover (exit 2): target/edits/it/torn.log",
+        "wrong: refused",
+    ];
+    assert_eq!(clone.tried(&[]), expected(&said, "1 passed, 2 failed", 1));
 }
 
 #[test]
 fn an_edit_that_does_not_fit_fails() {
-    let twice = "what it replaces does not stand in src/lib.rt just once";
-    is_bad("twice", "file: src/lib.rt\nold: right\nnew: wrong\n", twice);
-    is_bad("never", "file: src/lib.rt\nold: absent\nnew: wrong\n", twice);
-    is_bad("empty", "file: src/lib.rt\nnew: wrong\n", twice);
-    is_bad("again", "file: src/lib.rt\nold: one\nnew: one wrong\nnew: wrong\n", twice);
-    is_bad("nothing", "# only a comment\n", "it replaces nothing");
-    is_bad("no-file", "file: src/other.rt\nold: one\nnew: wrong\n", "there is no src/other.rt");
-    for file in ["src/../../below/src/lib.rt", "proofs/Lib.antt", "lib.rt"] {
-        let reason = format!("it edits {file}, which is no code and no definition of the crate");
-        is_bad("outside", &format!("file: {file}\nold: one\nnew: wrong\n"), &reason);
-    }
-}
-
-#[test]
-fn where_the_unedited_crate_is_not_proved_no_edit_passes() {
-    let clone = Clone::with("unproved", &[("it", WRONG)]);
-    clone.put("crates/above/src/lib.rt", "one\nwrong\n");
-    let run = clone.run(&[]);
-    assert_eq!(ending(&run), ("0 passed, 1 failed", 1));
-    assert!(run.out.contains("edits: above/it: NOT TRIED: above is not proved as it stands"), "{}", run.out);
-
-    let clone = Clone::with("linked", &[("it", WRONG)]);
-    symlink("lib.rt", clone.beside("crates/above/src/other.rt")).expect("a link");
-    assert_eq!(ending(&clone.run(&[])), ("0 passed, 1 failed", 1), "a crate with a link is not copied");
+    let edits = [
+        ("again", "file: src/lib.rt\nold: one\nnew: one wrong\nnew: wrong\n"),
+        ("empty", "file: src/lib.rt\nnew: wrong\n"),
+        ("never", "file: src/lib.rt\nold: absent\nnew: wrong\n"),
+        ("no-file", "file: src/other.rt\nold: one\nnew: wrong\n"),
+        ("nothing", "# only a comment\n"),
+        ("outside", "file: src/../../it/src/lib.rt\nold: one\nnew: wrong\n"),
+        ("proofs", "file: proofs/Lib.antt\nold: one\nnew: wrong\n"),
+        ("twice", "file: src/lib.rt\nold: right\nnew: wrong\n"),
+    ];
+    let said =
+        edits.map(|(name, _)| format!("{name}: BAD EDIT: it does not fit the code and definitions of it"));
+    let said = said.iter().map(String::as_str).collect::<Vec<&str>>();
+    assert_eq!(Clone::with("fit", &edits).tried(&[]), expected(&said, "0 passed, 8 failed", 1));
 }
 
 #[test]
 fn to_try_nothing_is_no_pass() {
-    let nothing = |clone: Clone, arguments: &[&str], err: &str, status: i32| {
-        let run = clone.run(arguments);
-        assert_eq!((run.out.as_str(), run.err.as_str(), run.status), ("0 passed, 1 failed\n", err, status));
+    let nothing = |clone: &Clone, arguments: &[&str], words: &str| {
+        let run = clone.run(".ci/edits", arguments);
+        assert_eq!((run.out.as_str(), run.status), ("0 passed, 1 failed\n", 2));
+        assert_eq!(run.err, format!("edits: {words}\n"));
     };
-    nothing(Clone::with("none", &[]), &[], "edits: there is none\n", 2);
-    nothing(Clone::with("none-of-it", &[("it", WRONG)]), &["below"], "edits: there is none\n", 2);
-    nothing(Clone::with("no-crate", &[]), &["other"], "edits: there is no crate other\n", 2);
+    let none = Clone::with("none", &[]);
+    nothing(&none, &[], "there is no edit crates/*/must-fail/wrong-answers/*.edit");
     let clone = Clone::with("not-proved", &[("it", WRONG)]);
-    put_script(&clone.beside("tools/rt"), "echo 'rt: FAILED: below'; exit 1");
-    nothing(clone, &[], "rt: FAILED: below\n", 1);
+    nothing(&clone, &["other.edit"], "there is no edit other.edit");
+    clone.put("crates/it/src/lib.rt", "one\nwrong\n");
+    nothing(&clone, &[], "the crates are not proved as they stand: target/edits/check.log");
+}
+
+#[test]
+fn all_edits_are_tried_by_the_toolchain_in_a_clean_clone() {
+    let clone = Clone::with("all", &[("first", WRONG)]);
+    clone.put("crates/it/must-fail/second.edit", WRONG);
+    put_script(
+        &clone.beside("tools/git"),
+        "[ \"$1 $2\" = 'clone -q' ] && mkdir \"$4\" && cp -R crates \"$4\"",
+    );
+    put_script(&clone.beside("tools/rt"), "echo rt \"$@\" in crates/it/must-fail/*; exit 1");
+    let run = clone.run(".ci/all-edits", &[]);
+    let files =
+        ["first.edit", "second.edit", "wrong-answers"].map(|name| format!(" crates/it/must-fail/{name}"));
+    assert_eq!(
+        (run.out, run.err.as_str(), run.status),
+        (format!("rt must-fail in{}\n", files.concat()), "", 1)
+    );
+    assert!(clone.beside(&edit_path("first")).exists(), "the repository itself stays");
 }

@@ -12,10 +12,8 @@ use std::process::{Command, Stdio};
 
 use scripts::{put_script, put_tools, told, Folder, Told};
 
-const TOOLS: [&str; 14] = [
-    "awk", "bash", "cat", "cp", "dirname", "env", "mktemp", "nice", "nproc", "rm", "sed", "sleep", "tail",
-    "tee",
-];
+const TOOLS: [&str; 13] =
+    ["awk", "bash", "cat", "cp", "dirname", "env", "mkdir", "mktemp", "nproc", "rm", "sed", "tail", "tee"];
 const PACKAGES: &str = "cargo rustc gcc g++ libc6-dev";
 const CARGO: &str = "case \"$*\" in\n\
                      --version) echo cargo 1 ;;\n\
@@ -35,11 +33,11 @@ impl Machine {
         for folder in ["clone/.ci", "clone/host", "packages", "temporary"] {
             fs::create_dir_all(machine.beside(folder)).expect("a folder");
         }
-        for file in [".ci/run", "host/x86-cargo", "host/run-tests"] {
+        for file in [".ci/run", "host/x86-cargo", "host/native-library", "host/run-tests"] {
             fs::copy(root.join(file), machine.beside("clone").join(file)).expect("a script");
         }
         put_tools(&machine.beside("tools"), &TOOLS);
-        put_script(&machine.beside("clone/check-sheet"), "echo ACCEPT 2 1500000");
+        put_script(&machine.beside("clone/sheet"), "[ \"$1\" != check ] || echo ACCEPT 2 1500000");
         put_script(
             &machine.beside("clone/.ci/edits"),
             &machine.told_to("edits", "echo '4 passed, 0 failed'"),
@@ -51,6 +49,7 @@ impl Machine {
         machine.put("rustc", "echo rustc 1");
         machine.put("cc", "cat >/dev/null");
         machine.put("c++", "cat >/dev/null");
+        machine.put("valgrind", "true");
         for name in ["cargo", "rustc", "cc", "c++"] {
             fs::copy(machine.tool(name), machine.beside("packages").join(name)).expect("a package");
         }
@@ -94,13 +93,6 @@ impl Machine {
         asked.lines().map(String::from).collect()
     }
 
-    /// The same, sorted: the edits begin beside the proof.
-    fn asked_in_all(&self) -> Vec<String> {
-        let mut asked = self.asked();
-        asked.sort();
-        asked
-    }
-
     fn run(&self, script: &str, arguments: &[&str]) -> Told {
         let mut command = Command::new(self.beside("clone").join(script));
         command.env_clear().env("PATH", self.beside("tools")).env("TMPDIR", self.beside("temporary"));
@@ -121,20 +113,20 @@ fn ending(run: &Told) -> (&str, i32, &str) {
 }
 
 const NOT_BEGUN: &str = "0 passed, 1 failed";
+const PARTS: [&str; 4] = ["rt fmt --check", "rt ci", "edits ", "rt staticlib usm_c"];
 
 #[test]
 fn with_all_there_nothing_is_installed_and_everything_counted() {
     let machine = Machine::whole("whole");
     assert_eq!(
         ending(&machine.gate()),
-        ("14 passed, 0 failed", 0, ""),
-        "3 proved, 4 edits refused, 6 tested, README's command"
+        ("15 passed, 0 failed", 0, ""),
+        "the layout, 3 proved, 4 edits refused, 6 tested, README's command"
     );
-    let parts = ["edits --as-proved", "rt ci", "rt staticlib usm_c"];
-    assert_eq!(machine.asked_in_all(), parts);
+    assert_eq!(machine.asked(), PARTS);
     fs::remove_file(machine.tool("nproc")).expect("it was there");
-    assert_eq!(ending(&machine.gate()), ("14 passed, 0 failed", 0, ""), "nobody says how many processors");
-    assert_eq!(machine.asked_in_all(), [[parts[0]; 2], [parts[1]; 2], [parts[2]; 2]].concat());
+    assert_eq!(ending(&machine.gate()), ("15 passed, 0 failed", 0, ""), "nobody says how many processors");
+    assert_eq!(machine.asked(), [PARTS, PARTS].concat());
 }
 
 #[test]
@@ -149,10 +141,10 @@ fn without_the_toolchain_one_line_says_what_is_needed() {
 fn root_gets_what_is_missing_installed_before_anything_is_proved() {
     let machine = Machine::without("root", &["cargo", "rustc", "cc", "c++"]);
     let message = format!("x86-cargo: installing {PACKAGES}\n");
-    assert_eq!(ending(&machine.gate()), ("14 passed, 0 failed", 0, message.as_str()));
+    assert_eq!(ending(&machine.gate()), ("15 passed, 0 failed", 0, message.as_str()));
     let install = format!("apt-get install -y --no-install-recommends {PACKAGES}");
     assert_eq!(machine.asked()[..2], ["apt-get update", &install]);
-    assert_eq!(machine.asked_in_all()[2..], ["edits --as-proved", "rt ci", "rt staticlib usm_c"]);
+    assert_eq!(machine.asked()[2..], PARTS);
 }
 
 /// A compiler without headers and a cargo without a toolchain are as good as none.
@@ -234,42 +226,19 @@ fn the_last_line_counts_what_failed() {
         (String::from(ending(&run).0), run.status)
     };
     let count = |passed_failed: &str, status: i32| (String::from(passed_failed), status);
-    assert_eq!(failing("rt-1", "rt", "echo '2 passed, 1 failed'; exit 1"), count("2 passed, 1 failed", 1));
-    assert_eq!(failing("rt-2", "rt", "echo 'rt: a bad crates.txt'; exit 2"), count("0 passed, 1 failed", 1));
-    assert_eq!(failing("rt-3", "rt", "echo '2 passed, 0 failed'; exit 3"), count("2 passed, 1 failed", 1));
-    assert_eq!(
-        failing("library", "rt", "[ \"$1\" = ci ] && echo '2 passed, 0 failed'"),
-        count("2 passed, 1 failed", 1)
-    );
+    let laid_out = |then: &str| format!("[ \"$1\" = fmt ] || {{ {then}; }}");
+    let rt = |name: &str, then: &str| failing(name, "rt", &laid_out(then));
+    assert_eq!(failing("layout", "rt", "echo 'rt: src/lib.rt'; exit 1"), count("0 passed, 1 failed", 1));
+    assert_eq!(rt("rt-1", "echo '2 passed, 1 failed'; exit 1"), count("3 passed, 1 failed", 1));
+    assert_eq!(rt("rt-2", "echo 'rt: a bad crates.txt'; exit 2"), count("1 passed, 1 failed", 1));
+    assert_eq!(rt("rt-3", "echo '2 passed, 0 failed'; exit 3"), count("3 passed, 1 failed", 1));
+    assert_eq!(rt("library", "[ \"$1\" = ci ] && echo '2 passed, 0 failed'"), count("7 passed, 1 failed", 1));
     let one_fails = CARGO.replace("ok. 2 passed; 0 failed;", "FAILED. 1 passed; 1 failed;");
-    assert_eq!(failing("tests", "cargo", &one_fails), count("6 passed, 3 failed", 1));
+    assert_eq!(failing("tests", "cargo", &one_fails), count("11 passed, 3 failed", 1));
     let machine = Machine::whole("edits");
     put_script(&machine.beside("clone/.ci/edits"), "echo '3 passed, 1 failed'; exit 1");
-    assert_eq!(ending(&machine.gate()), ("12 passed, 1 failed", 1, ""), "an edit that is not refused");
+    assert_eq!(ending(&machine.gate()), ("7 passed, 1 failed", 1, ""), "an edit that is not refused");
     let machine = Machine::whole("second-command");
-    put_script(&machine.beside("clone/check-sheet"), "echo ACCEPT 2 1");
-    assert_eq!(ending(&machine.gate()), ("13 passed, 1 failed", 1, ""));
-}
-
-#[test]
-fn edits_end_with_the_gate() {
-    let machine = Machine::whole("ends");
-    let (process, wait) = (machine.beside("process"), machine.beside("clone/.ci/edits"));
-    // What goes on is not the script itself, but a program that it has started.
-    put_script(&wait, &format!("sleep 600 & echo $! >'{}'; wait", process.display()));
-    let failing = format!(
-        "until [ -s '{}' ]; do sleep 0.1; done; echo '2 passed, 1 failed'; exit 1",
-        process.display()
-    );
-    machine.put("rt", &failing);
-    assert_eq!(ending(&machine.gate()), ("2 passed, 1 failed", 1, ""));
-    let process = fs::read_to_string(process).expect("it had begun");
-    let words = PathBuf::from(format!("/proc/{}/cmdline", process.trim()));
-    let lives = || fs::read(&words).map_or(false, |words| !words.is_empty());
-    for _ in 0..50 {
-        if lives() {
-            std::thread::sleep(std::time::Duration::from_millis(100));
-        }
-    }
-    assert!(!lives(), "nothing goes on after the gate");
+    put_script(&machine.beside("clone/sheet"), "echo ACCEPT 2 1");
+    assert_eq!(ending(&machine.gate()), ("14 passed, 1 failed", 1, ""));
 }

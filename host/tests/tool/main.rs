@@ -16,7 +16,6 @@ mod moves;
 mod paid;
 mod play;
 mod salvage;
-mod script;
 mod symbols;
 
 use std::ffi::OsStr;

@@ -74,8 +74,8 @@ pub fn check(names: &[OsString], json: bool, work: bool) -> Result<ExitCode, Str
     let mut output = Output::new();
     let mut tally = Tally::default();
     let mut file = Vec::with_capacity(LONGEST_FILE + 1);
-    for name in names {
-        let found = judge(&mut file, name);
+    for (row, name) in names.iter().enumerate() {
+        let found = judge(&mut file, name, &names[..row]);
         tally.count(&found);
         if json {
             output.print(json::object(name, &found).as_bytes())?;
@@ -97,7 +97,10 @@ pub fn check(names: &[OsString], json: bool, work: bool) -> Result<ExitCode, Str
     Ok(ExitCode::from(tally.status()))
 }
 
-fn judge(file: &mut Vec<u8>, name: &OsStr) -> Found {
+fn judge(file: &mut Vec<u8>, name: &OsStr, before: &[OsString]) -> Found {
+    if name == "-" && before.iter().any(|earlier| earlier == "-") {
+        return Found::Unread(String::from("-: standard input can be read only once"));
+    }
     if let Err(message) = read_into(file, name, LONGEST_FILE) {
         return Found::Unread(message);
     }

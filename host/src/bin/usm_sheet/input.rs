@@ -5,7 +5,7 @@ use std::fmt::Display;
 use std::fs::File;
 use std::io::{self, Read};
 
-use usm::program::shown;
+use usm::program::{shown, Stream};
 use usm::text::Errors;
 use usm::{sentences, text, Sheet, LONGEST_FILE};
 
@@ -16,7 +16,7 @@ const LONGEST_TEXT: usize = 1 << 20;
 pub fn read_into(bytes: &mut Vec<u8>, name: &OsStr, most: usize) -> Result<(), String> {
     let failed = |error: io::Error| format!("{}: cannot be read: {error}", shown(name));
     let source: Box<dyn Read> = match name.to_str() {
-        Some("-") => Box::new(io::stdin()),
+        Some("-") => Box::new(Stream::input()),
         _ => Box::new(File::open(name).map_err(failed)?),
     };
     bytes.clear();

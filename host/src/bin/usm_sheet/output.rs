@@ -1,12 +1,12 @@
 //! Standard output, gathered, and standard error in step with it. What could not be written is an error.
 
-use std::io::{self, BufWriter, StdoutLock, Write};
+use std::io::{self, BufWriter, Write};
 use std::process::ExitCode;
 
-use usm::program;
+use usm::program::{self, Stream};
 
 pub struct Output {
-    out: BufWriter<StdoutLock<'static>>,
+    out: BufWriter<Stream>,
 }
 
 /// Prints a text that is all there is to say.
@@ -23,7 +23,7 @@ fn failed(error: io::Error) -> String {
 
 impl Output {
     pub fn new() -> Output {
-        Output { out: BufWriter::new(io::stdout().lock()) }
+        Output { out: BufWriter::new(Stream::output()) }
     }
 
     pub fn print(&mut self, bytes: &[u8]) -> Result<(), String> {

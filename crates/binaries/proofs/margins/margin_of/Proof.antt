@@ -8,14 +8,14 @@ use Rattle.binaries.proofs.margins.margin_of.Tie as tie
 mul-result-2 : tie.Need-mul-result-2
 mul-result-2 c =
     let s = c .before .before .before .args in
-    let m = margin-most (s .side) (s .spread) (s .valuation) (s .expiry) (s .contracts) (c .before .before .before .pre .1) in
+    let m = margin-most (s .side) (s .spread) (s .valuation) (s .expiry) (s .contracts) (c .before .before .before .pre .2) in
     rw (c .tenths-at .ensures, c .before .column-of .ensures .0, c .before .before .row-of .ensures .0, mills-is (s .side) (s .spread) (s .valuation) (s .expiry) (s .contracts))
     (record { fits = omega (arith, side-most (s .side)) })
 
 returns : tie.Need-returns
 returns c =
     let s = c .before .before .before .args in
-    let m = margin-most (s .side) (s .spread) (s .valuation) (s .expiry) (s .contracts) (c .before .before .before .pre .1) in
+    let m = margin-most (s .side) (s .spread) (s .valuation) (s .expiry) (s .contracts) (c .before .before .before .pre .2) in
     rw (c .tenths-at .ensures, c .before .column-of .ensures .0, c .before .before .row-of .ensures .0, mills-is (s .side) (s .spread) (s .valuation) (s .expiry) (s .contracts))
     (refl, omega (arith, side-most (s .side)))
 
