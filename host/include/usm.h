@@ -100,6 +100,9 @@
 extern "C" {
 #endif
 
+/* The version of the whole: the library, `sheet --version`, the pkg-config file and the package. */
+#define USM_VERSION "0.15.0"
+
 /* Sizes and limits. */
 enum {
     USM_ANSWER_NUMBERS = 4,

@@ -14,6 +14,9 @@
 #![warn(missing_docs)]
 #![deny(unsafe_code)]
 
+/// The version of the whole, as the header `usm.h` has it.
+pub const VERSION: &str = env!("USM_VERSION");
+
 pub mod numbers;
 pub mod sentences;
 pub mod text;

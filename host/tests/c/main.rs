@@ -1,5 +1,4 @@
-//! C and C++ callers: programs compiled against the header and the archive and run, the header's
-//! constants, and the installed library.
+//! C and C++ callers: programs compiled against the header and the archive and run, and the header's constants.
 
 #![forbid(unsafe_code)]
 
@@ -8,6 +7,5 @@ mod common;
 
 mod compiled;
 mod header;
-mod install;
 mod memory;
 mod programs;

@@ -8,7 +8,7 @@ use std::thread::sleep;
 use std::time::Duration;
 
 /// The program of this name: where `USM_CHECK`, `USM_TABLE` or `USM_BENCH` says, or where `rt check` puts it.
-fn built(name: &str) -> PathBuf {
+pub fn built(name: &str) -> PathBuf {
     let variable = format!("USM_{}", name.trim_start_matches("usm_").to_uppercase());
     let built = Path::new(env!("CARGO_MANIFEST_DIR")).join("../target/bin").join(name);
     let program = std::env::var_os(&variable).map_or(built, PathBuf::from);

@@ -4,7 +4,7 @@
 use std::fs::{self, Permissions};
 use std::os::unix::fs::{symlink, PermissionsExt};
 use std::path::{Path, PathBuf};
-use std::process::Output;
+use std::process::{Command, Output};
 
 /// A program on the path of the tests.
 pub fn on_path(name: &str) -> Option<PathBuf> {
@@ -30,6 +30,18 @@ pub fn put_script(path: &Path, text: &str) {
 
 pub fn set_mode(path: &Path, mode: u32) {
     fs::set_permissions(path, Permissions::from_mode(mode)).expect("permissions");
+}
+
+/// A command that starts a program as one whom permissions hold, as they do not hold root.
+#[allow(dead_code)] // some tests have no files of others
+pub fn as_anyone(program: &Path) -> Command {
+    let id = Command::new("id").arg("-u").output().expect("id runs");
+    if id.stdout != b"0\n" {
+        return Command::new(program);
+    }
+    let mut command = Command::new(on_path("setpriv").expect("setpriv, of util-linux"));
+    command.args(["--reuid=65534", "--regid=65534", "--clear-groups"]).arg(program);
+    command
 }
 
 /// A folder of one test's own, where everyone may look: it goes when the test ends.

@@ -6,7 +6,7 @@ use std::os::unix::fs::symlink;
 use std::path::{Path, PathBuf};
 use std::process::{Command, Stdio};
 
-use crate::scripts::{on_path, put_script, put_tools, set_mode, told, Folder, Told};
+use crate::scripts::{as_anyone, on_path, put_script, put_tools, set_mode, told, Folder, Told};
 
 /// All that the script may start, and what the stand-ins need.
 const TOOLS: [&str; 16] = [
@@ -14,7 +14,8 @@ const TOOLS: [&str; 16] = [
     "touch", "uname", "wc",
 ];
 
-pub const SOURCES: [&str; 6] = [
+pub const SOURCES: [&str; 7] = [
+    "host/include/usm.h",
     "host/src/lib.rs",
     "host/src/bin/usm_sheet/main.rs",
     "host/src/bin/other.rs",
@@ -28,11 +29,6 @@ const SAYS_ITS_WORDS: &str = "printf '<%s>' \"$@\"\ncat";
 
 pub fn said(status: i32, out: &str, err: &str) -> Told {
     Told { status, out: out.into(), err: err.into() }
-}
-
-fn is_root() -> bool {
-    let id = Command::new("id").arg("-u").output().expect("id runs");
-    id.stdout == b"0\n"
 }
 
 /// The clone, the files that the tool works on, and the path.
@@ -72,7 +68,7 @@ impl Door {
     pub fn with_tool(name: &str) -> Door {
         let door = Door::of_this_machine(name);
         fs::copy(env!("CARGO_BIN_EXE_usm_sheet"), door.beside("program")).expect("the tool");
-        assert_eq!(door.run(&["--version"]).out, format!("sheet {}\n", env!("CARGO_PKG_VERSION")));
+        assert_eq!(door.run(&["--version"]).out, format!("sheet {}\n", usm::VERSION));
         door
     }
 
@@ -205,7 +201,10 @@ impl Door {
 
     /// `program`, with nothing on its path but the tools, in the folder of the files.
     pub fn command(&self, program: &Path) -> Command {
-        let mut command = Command::new(program);
+        self.here(Command::new(program))
+    }
+
+    fn here(&self, mut command: Command) -> Command {
         command.env_clear().env("PATH", self.beside("tools")).env("USM_C_LIB_DIR", "/nowhere");
         command.current_dir(self.beside("files")).stdin(Stdio::null());
         command
@@ -227,13 +226,6 @@ impl Door {
 
     /// sheet by one whom permissions hold, as they do not hold root.
     pub fn as_anyone(&self, arguments: &[&str]) -> Told {
-        let mut command = match is_root() {
-            true => self.command(&on_path("setpriv").expect("setpriv, of util-linux")),
-            false => self.sheet(),
-        };
-        if is_root() {
-            command.args(["--reuid=65534", "--regid=65534", "--clear-groups"]).arg(self.clone("sheet"));
-        }
-        told(command.args(arguments).output().expect("sheet runs"))
+        told(self.here(as_anyone(&self.clone("sheet"))).args(arguments).output().expect("sheet runs"))
     }
 }

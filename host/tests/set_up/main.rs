@@ -14,6 +14,14 @@ use scripts::{put_script, put_tools, told, Folder, Told};
 
 const TOOLS: [&str; 13] =
     ["awk", "bash", "cat", "cp", "dirname", "env", "mkdir", "mktemp", "nproc", "rm", "sed", "tail", "tee"];
+const SCRIPTS: [&str; 6] = [
+    ".ci/run",
+    "host/x86-cargo",
+    "host/native-library",
+    "host/run-tests",
+    "host/shared-library",
+    "host/python/run-tests",
+];
 const PACKAGES: &str = "cargo rustc gcc g++ libc6-dev";
 const CARGO: &str = "case \"$*\" in\n\
                      --version) echo cargo 1 ;;\n\
@@ -30,10 +38,10 @@ impl Machine {
     fn whole(name: &str) -> Machine {
         let machine = Machine { folder: Folder::new(&format!("set-up-{name}")) };
         let root = Path::new(env!("CARGO_MANIFEST_DIR")).join("..");
-        for folder in ["clone/.ci", "clone/host", "packages", "temporary"] {
+        for folder in ["clone/.ci", "clone/host/python", "packages", "temporary"] {
             fs::create_dir_all(machine.beside(folder)).expect("a folder");
         }
-        for file in [".ci/run", "host/x86-cargo", "host/native-library", "host/run-tests"] {
+        for file in SCRIPTS {
             fs::copy(root.join(file), machine.beside("clone").join(file)).expect("a script");
         }
         put_tools(&machine.beside("tools"), &TOOLS);
@@ -241,4 +249,24 @@ fn the_last_line_counts_what_failed() {
     let machine = Machine::whole("second-command");
     put_script(&machine.beside("clone/sheet"), "echo ACCEPT 2 1");
     assert_eq!(ending(&machine.gate()), ("14 passed, 1 failed", 1, ""));
+}
+
+/// Without python3, as on the machines above, they are left out, and that is said.
+#[test]
+fn the_tests_of_python_are_counted_where_it_is_there() {
+    let said = |machine: &Machine, words: &str| machine.gate().out.lines().any(|line| line.contains(words));
+    assert!(said(
+        &Machine::whole("no-python"),
+        "The Python tests were left out: python3 is not on the path."
+    ));
+    let machine = Machine::whole("python");
+    machine.put("python3", "echo 'test result: ok. 5 passed; 0 failed;'");
+    assert!(said(&machine, "The Python tests were left out: there is no library for this machine itself"));
+    fs::create_dir_all(machine.beside("clone/target/staticlib")).expect("a folder");
+    fs::write(machine.beside("clone/target/staticlib/libusm_c.a"), "").expect("a library");
+    assert_eq!(ending(&machine.gate()), ("20 passed, 0 failed", 0, ""));
+    machine.put("python3", "echo 'test result: FAILED. 3 passed; 2 failed;'; exit 1");
+    assert_eq!(ending(&machine.gate()), ("17 passed, 2 failed", 1, ""));
+    machine.put("python3", "exit 1");
+    assert_eq!(ending(&machine.gate()), ("14 passed, 1 failed", 1, ""), "tests that did not even start");
 }

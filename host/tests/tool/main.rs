@@ -107,7 +107,7 @@ fn help_and_version_are_printed() {
         assert_eq!((status, errors.as_str()), (0, ""));
         assert!(help.contains("usage:") && help.contains("american"), "{help}");
     }
-    let version = format!("sheet {}\n", env!("CARGO_PKG_VERSION"));
+    let version = format!("sheet {}\n", usm::VERSION);
     assert_eq!(told(run(&folder, &["--version"], b"")), (0, version, String::new()));
 }
 

@@ -85,7 +85,7 @@ fn run(words: Vec<OsString>) -> Result<ExitCode, String> {
         return help();
     }
     if arguments.version {
-        return print(concat!("sheet ", env!("CARGO_PKG_VERSION"), "\n"));
+        return print(&format!("sheet {}\n", usm::VERSION));
     }
     let Arguments { force, json, table, work, .. } = arguments;
     let files = arguments.files.as_slice();
