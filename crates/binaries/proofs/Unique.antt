@@ -1,17 +1,11 @@
--- No two different outcomes meet a promise of this crate: each says that the answer is one definition of the inputs.
-use mathlib.Core.Path.{_≡_}
-use Prim.Native.Nat.{ℕ}
-use Rattle.records.proofs.Unique.{one-outcome}
-use Rattle.binaries.specs.Calls.{singleCall, pairCall}
-use Rattle.binaries.specs.declared.percentages.Side.{Side}
-use Rattle.binaries.specs.declared.positions.Position.{Position}
-use Rattle.binaries.specs.declared.positions.LongPosition.{LongPosition}
-use Rattle.binaries.specs.declared.calls.Required.{Required}
+-- No two different outcomes satisfy a promise of this crate: a law for each public function, named after it, with a part for
+-- the result and one for each lent slice. A law cites the contract itself: one that settles less is refused here.
+use Rattle.records.specs.OneOutcome.{OneOutcome}
+use Rattle.records.proofs.OutcomeLaws.{by-parts}
+use Rattle.binaries.proofs as binaries
 
-binary-margin-unique : (side : Side) (spread valuation expiry contracts : ℕ) (r s : Required)
-    → r ≡ singleCall side spread valuation expiry contracts → s ≡ singleCall side spread valuation expiry contracts → r ≡ s
-binary-margin-unique side spread valuation expiry contracts r s = one-outcome
+binary-margin-unique : OneOutcome binaries.binary_margin.ended binaries.binary_margin.Reads.Learnt
+binary-margin-unique = by-parts λ κs a o p x y. cc
 
-pair-margin-unique : (valuation : ℕ) (long : LongPosition) (short : Position) (r s : Required)
-    → r ≡ pairCall valuation long short → s ≡ pairCall valuation long short → r ≡ s
-pair-margin-unique valuation long short r s = one-outcome
+pair-margin-unique : OneOutcome binaries.pair_margin.ended binaries.pair_margin.Reads.Learnt
+pair-margin-unique = by-parts λ κs a o p x y. cc

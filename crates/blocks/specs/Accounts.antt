@@ -6,6 +6,7 @@ use mathlib.Core.Bool.{true}
 use mathlib.Core.List.{List}
 use mathlib.Core.Logic.{_⊎_}
 use lib.ListN.{length, take}
+use Rattle.records.specs.Bytes.{AllBytes}
 use Rattle.records.specs.Chunks.{chunkAt}
 use Rattle.records.specs.Lists.{All}
 use Rattle.records.specs.Order.{refuse}
@@ -15,7 +16,7 @@ use Rattle.blocks.specs.File.{Tables, wholeFile, blocksOf, tablesIn, ori
 use Rattle.blocks.specs.Writer.{filled}
 use Rattle.blocks.specs.Reader.{readOf}
 use Rattle.blocks.specs.Moves.{moveOf}
-use Rattle.blocks.specs.RoundTrips.{Writes, Reads, AllBytes}
+use Rattle.blocks.specs.RoundTrips.{Writes, Reads}
 use Rattle.blocks.specs.declared.forms.Form.{Form}
 use Rattle.blocks.specs.declared.forms.Origin.{Origin}
 use Rattle.blocks.specs.declared.answers.Reading.the-variants.{Refused}

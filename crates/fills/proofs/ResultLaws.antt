@@ -40,6 +40,7 @@ use Rattle.fills.proofs.BalanceLaws.{contracts-apart}
 use Rattle.fills.proofs.FillLaws.{good-range}
 use Rattle.fills.proofs.LedgerLaws.{fill-range, fill-unpaid, fill-open, fill-close, ledger-stands, ledger-refuses}
 use Rattle.fills.proofs.MergeLaws.{held-merged, merged-snoc, length-opened}
+use Rattle.fills.proofs.PartLaws.{all-mid}
 use Rattle.fills.proofs.PlayLaws.{Tabled, tables-clear}
 use Rattle.fills.proofs.RowLaws.{all-opened, all-closed, left-some, length-opened-is}
 use Rattle.fills.proofs.StandLaws.{length-bytes, records-back, legs-back}
@@ -171,11 +172,11 @@ started before (x ∷ xs) i s p a u =
 
 -- ---- a call that is not refused
 
-record Passed (h f : List ℕ) : Type 0 where
+pub record Passed (h f : List ℕ) : Type 0 where
   pub tabled : Tabled h f
   pub lots : Pass (askPast [] 0 (startingLegs h))
 
-passed : (h f : List ℕ) (result indices numbers n k : ℕ) → playOf h f result indices numbers ≡ Done n k → Passed h f × (n ≡ length (rowsPlayed h f))
+pub passed : (h f : List ℕ) (result indices numbers n k : ℕ) → playOf h f result indices numbers ≡ Done n k → Passed h f × (n ≡ length (rowsPlayed h f))
 unfolding playOf playChecks
 passed h f result indices numbers n k e = go (firstOf checks) refl e
   where
@@ -243,7 +244,7 @@ listed h f result indices numbers n k e = go (firstOf (playChecks h f result ind
 
 records-good : (rows : List Leg) → All (λ l. inRange 0 l ≡ true) rows → All (λ r. goodRecord Holdings r ≡ true) (recordsOf (bytesOf rows))
 records-good rows a =
-    rw (records-back rows) (map-all legBytes (λ r. goodRecord Holdings r ≡ true) (λ l. inRange 0 l ≡ true) rows (λ l e. leg-good 0 l (omega arith) e) a)
+    rw (records-back rows) (map-all legBytes (λ r. goodRecord Holdings r ≡ true) (λ l. inRange 0 l ≡ true) rows (λ l e. leg-good 0 l e) a)
 
 whole-bytes : (rows : List Leg) → Fine rows → wholeTable Holdings (length (bytesOf rows)) ≡ true
 whole-bytes rows f =
@@ -267,29 +268,25 @@ result-sound h f result indices numbers n k e =
 pub result-unpaid : ResultUnpaid
 result-unpaid h f result indices numbers n k e =
     let fine = rows-fine h f (passed h f result indices numbers n k e .0) in
-    rw (legs-back (rowsPlayed h f) (fine .good)) (fine .unpaid)
+    rw (legs-back (rowsPlayed h f)) (fine .unpaid)
 
 -- ---- played over by no fills
 
 -- rows that are not marked are started from as they are
 starting-same : (rows : List Leg) → Fine rows → startingLegs (bytesOf rows) ≡ rows
-starting-same rows f = starting-is (bytesOf rows) ∙ ap (map unpaid) (legs-back rows (f .good)) ∙ unpaid-same rows (f .unpaid)
+starting-same rows f = starting-is (bytesOf rows) ∙ ap (map unpaid) (legs-back rows) ∙ unpaid-same rows (f .unpaid)
 
-opened-new : (x : Leg) (rows : List Leg) → All (λ y. sameLineSide y x ≡ false) rows → opened x rows ≡ rows ++ x ∷ []
+pub opened-new : (x : Leg) (rows : List Leg) → All (λ y. sameLineSide y x ≡ false) rows → opened x rows ≡ rows ++ x ∷ []
 unfolding opened
 opened-new x [] a = refl
 opened-new x (y ∷ ys) a = rw (line-sym x y, a .0, opened-new x ys (a .1))
-
-all-mid : (P : Leg → Type 0) (a b : List Leg) (x : Leg) → All P (a ++ x ∷ b) → P x
-all-mid P [] b x p = p .0
-all-mid P (y ∷ a) b x p = all-mid P a b x (p .1)
 
 apart-front : (a b : List Leg) (x : Leg) → Apart (a ++ x ∷ b) → All (λ y. sameLineSide y x ≡ false) a
 apart-front [] b x p = tt
 apart-front (y ∷ a) b x p = (all-mid (λ w. sameLineSide y w ≡ false) a b x (p .0), apart-front a b x (p .1))
 
 -- rows that are apart already
-merged-apart : (rows legs : List Leg) → Apart (rows ++ legs) → mergedInto rows legs ≡ rows ++ legs
+pub merged-apart : (rows legs : List Leg) → Apart (rows ++ legs) → mergedInto rows legs ≡ rows ++ legs
 unfolding mergedInto
 merged-apart rows [] a = sym (append-nil rows)
 merged-apart rows (x ∷ xs) a =
@@ -332,7 +329,7 @@ unfolding playOf
 again-done rows room i j f a h = rw (again-clear rows room i j f a h, again rows f a, none-refused (bytesOf rows))
 
 -- the records that a call leaves at the front of its result
-left-records : (rows : List Leg) (result : List ℕ) (n k : ℕ) → n ≡ length rows → take (32 * n) (left (Done n k) (bytesOf rows) result) ≡ bytesOf rows
+pub left-records : (rows : List Leg) (result : List ℕ) (n k : ℕ) → n ≡ length rows → take (32 * n) (left (Done n k) (bytesOf rows) result) ≡ bytesOf rows
 unfolding left
 left-records rows result n k e =
     let m : 32 * n ≡ length (bytesOf rows) = omega (arith, length-bytes rows) in

@@ -61,20 +61,20 @@ module _ (l : List Leg) (i : ℕ) (h : i ≤ length l) where
 pub records-back : (rows : List Leg) → recordsOf (bytesOf rows) ≡ map legBytes rows
 records-back rows = rw (bytes-flatten rows) (records-joined (map legBytes rows) (each-whole rows))
 
-each-back : (rows : List Leg) → Good rows → map legOf (map legBytes rows) ≡ rows
-each-back [] g = refl
-each-back (x ∷ rows) g = rw (leg-back 0 x (omega arith) (g .0), each-back rows (g .1))
+each-back : (rows : List Leg) → map legOf (map legBytes rows) ≡ rows
+each-back [] = refl
+each-back (x ∷ rows) = rw (leg-back x, each-back rows)
 
--- rows in their ranges are read as they were written
-pub legs-back : (rows : List Leg) → Good rows → legsOf (bytesOf rows) ≡ rows
+-- rows are read as they were written
+pub legs-back : (rows : List Leg) → legsOf (bytesOf rows) ≡ rows
 unfolding legsOf
-legs-back rows g = rw (records-back rows) (each-back rows g)
+legs-back rows = rw (records-back rows) (each-back rows)
 
 -- ---- rows that stand
 
 pub stand-rows : {b : List ℕ} {n : ℕ} {rows : List Leg} → Stand b n rows → rowsIn b n ≡ rows
 unfolding rowsIn
-stand-rows {b} {n} {rows} s = rw (s .is) (legs-back rows (s .good))
+stand-rows {b} {n} {rows} s = rw (s .is) (legs-back rows)
 
 -- they are the rows that are read there
 pub stand-self : {b : List ℕ} {n : ℕ} {rows : List Leg} → Stand b n rows → Stand b n (rowsIn b n)
@@ -111,7 +111,7 @@ module _ {b : List ℕ} {n : ℕ} {rows : List Leg} (s : Stand b n rows) where
       ∙ take-at (legBytes y) (bytesOf (drop (suc i) rows)) 32 (length-leg-bytes y)
 
   pub stand-at : (i : ℕ) → i < n → legOf (chunkAt 32 b i) ≡ getD rows i blankLeg
-  stand-at i h = rw (row-bytes i h) (leg-back 0 (getD rows i blankLeg) (omega arith) (stand-good i h))
+  stand-at i h = rw (row-bytes i h) (leg-back (getD rows i blankLeg))
 
   -- row i written anew
   pub stand-put : (i : ℕ) (l : Leg) → i < n → inRange 0 l ≡ true

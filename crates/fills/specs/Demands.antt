@@ -1,21 +1,26 @@
 -- What is demanded of the day's fills, of the definitions that the contract of `play` cites; the proofs stand in
--- proofs/LedgerLaws, BalanceLaws and ResultLaws.
+-- proofs/LedgerLaws, BalanceLaws, ResultLaws and KeptBytes.
 use mathlib.Core.Path.{_≡_}
-use mathlib.Core.List.{List, []}
+use mathlib.Core.Bool.{false}
+use mathlib.Core.List.{List, [], _∷_, _++_}
 use Prim.Native.Nat.{ℕ, _+_, _*_, _≤_}
 use lib.ListN.{length, take, drop}
+use Rattle.records.specs.Bytes.{AllBytes}
 use Rattle.records.specs.Chunks.{recordsOf}
-use Rattle.records.specs.Lines.{contractsOf}
+use Rattle.records.specs.Legs.{legOf}
+use Rattle.records.specs.Lines.{sameLineSide, contractsOf}
 use Rattle.records.specs.Lists.{All}
 use Rattle.records.specs.Listed.{indicesOf, numbersOf}
 use Rattle.records.specs.Tables.{countedOf, legsOf}
+use Rattle.records.specs.Written.{putAt}
 use Rattle.records.specs.declared.legs.Leg.{Leg}
 use Rattle.records.specs.declared.tables.Kind.the-variants.{Holdings}
 use Rattle.records.specs.declared.tables.Counted.the-variants.{Records}
+use Rattle.fills.specs.Fills.{fillLeg}
 use Rattle.fills.specs.Rows.{merged, bytesOf, startingLegs}
 use Rattle.fills.specs.Played.{playedOver, refusedOver}
 use Rattle.fills.specs.Calls.{rowsPlayed, refusedIn, playOf, left}
-use Rattle.fills.specs.Ledger.{Ledger, emptyLedger, startedFrom, ledgerOver, refusedBy, StandFor, Filled}
+use Rattle.fills.specs.Ledger.{Ledger, emptyLedger, startedFrom, ledgerOver, refusedBy, Apart, StandFor, Filled}
 use Rattle.fills.specs.Balance.{acceptedOver, openedIn, closedIn}
 use Rattle.fills.specs.declared.calls.Played.{Played}
 use Rattle.fills.specs.declared.calls.Played.the-variants.{Done, Refused}
@@ -78,6 +83,34 @@ ResultStays = (h f result : List ℕ) (indices numbers n k : ℕ) → playOf h f
     → (room i j : ℕ) → 8192 ≤ room
     → (let records = take (32 * n) (left (Done n k) (bytesOf (rowsPlayed h f)) result) in
     (playOf records [] room i j ≡ Done n 0) × (bytesOf (rowsPlayed records []) ≡ records))
+
+-- ---- what no fill touches comes out byte for byte
+
+-- a record of the starting table with mark 0, where no other record and no accepted fill is of its line and side
+pub record Untouched (h f x : List ℕ) : Type 0 where
+  pub before : List (List ℕ)
+  pub after : List (List ℕ)
+  pub stands : recordsOf h ≡ before ++ x ∷ after
+  pub unpaid : legOf x .paid ≡ 0
+  pub first : All (λ y. sameLineSide (legOf y) (legOf x) ≡ false) before
+  pub last : All (λ y. sameLineSide (legOf y) (legOf x) ≡ false) after
+  pub played : All (λ fill. sameLineSide (fillLeg fill) (legOf x) ≡ false) (acceptedOver (merged (startingLegs h)) (recordsOf f))
+
+-- the records that a call leaves at the front of its result
+abbrev pub resultRecords : List ℕ → List ℕ → List ℕ → ℕ → ℕ → List (List ℕ)
+resultRecords h f result n k = recordsOf (take (32 * n) (left (Done n k) (bytesOf (rowsPlayed h f)) result))
+
+-- it is one of them
+abbrev pub UntouchedStays : Type 0
+UntouchedStays = (h f result : List ℕ) (indices numbers n k : ℕ) → AllBytes h → playOf h f (length result) indices numbers ≡ Done n k
+    → (x : List ℕ) → Untouched h f x
+    → (before : List (List ℕ)) × (after : List (List ℕ)) × (resultRecords h f result n k ≡ before ++ x ∷ after)
+
+-- A starting table without repeats and marks comes out as it was where no fill is accepted, as where there is none.
+abbrev pub StartingStays : Type 0
+StartingStays = (h f result : List ℕ) (indices numbers n k : ℕ) → AllBytes h → playOf h f (length result) indices numbers ≡ Done n k
+    → Apart (legsOf h) → All (λ l. l .paid ≡ 0) (legsOf h) → acceptedOver (merged (startingLegs h)) (recordsOf f) ≡ []
+    → left (Done n k) (bytesOf (rowsPlayed h f)) result ≡ putAt result 0 h
 
 -- ---- 'Nothing lent is written' on a refusal; 'what lies past its output in a lent slice stays'
 

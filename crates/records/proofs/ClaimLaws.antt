@@ -25,8 +25,8 @@ module _ (c : Claim) (r : ClaimRanges c) where
   unfolding claimFields claimBytes leBytes leAt
   fields-back =
       rw (
-        two (c .group) (omega (arith, r .group)),
-        four (c .margin / 256 / 256 / 256 / 256) (omega (arith, r .margin)),
+        two (c .group),
+        four (c .margin / 256 / 256 / 256 / 256),
         low-four (c .margin),
       )
 

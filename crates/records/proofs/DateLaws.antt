@@ -6,7 +6,7 @@ use mathlib.Core.List.{[], _∷_, map}
 use native.Mathlib.Omega.{arith}
 use lib.Dec.{eqb, leb}
 use borrow.Author.Tests.{le-leb, lt-leb, leb-true}
-use Rattle.records.specs.Dates.{leapYear, february, daysIn}
+use Rattle.records.specs.Dates.{leapYear, february, daysIn, realDate}
 use Rattle.records.specs.Within.{within}
 
 -- the lengths are those of the table of twelve that stood here before, February by leap year
@@ -42,3 +42,8 @@ short-day year month day h = go (within 1 12 month) refl
         let f : day ≤ daysIn year month = omega arith in
         rw (le-leb day (daysIn year month) f, and-true)
     go false e = rw (no-days year month e, none (leb 1 day) refl)
+
+-- the first date of all is one
+pub first-real : realDate 20000101 ≡ true
+unfolding realDate daysIn
+first-real = refl

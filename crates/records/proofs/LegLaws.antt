@@ -1,8 +1,10 @@
 -- A leg's fields said in bytes, and read again; and its ranges, in another group, with another count of contracts or another paid mark.
-use Prim.Native.Nat.{ℕ, _+_, _*_, _/_, _%_, _≤_, _<_}
+use Prim.Native.Nat.{ℕ, _+_, _*_, _/_, _%_, _≤_}
 use mathlib.Core.Path.{_≡_, refl}
-use mathlib.Core.Bool.{true, and-eq-true-iff}
+use mathlib.Core.Bool.{Bool, true, false, cond, _&&_, and-eq-true-iff}
+use mathlib.Core.List.{List}
 use native.Mathlib.Omega.{arith}
+use lib.Dec.{eqb}
 use lib.ListN.{length}
 use borrow.Author.Tests.{le-leb}
 use Rattle.records.specs.Bytes.{leAt, leBytes, zeroIn}
@@ -11,13 +13,12 @@ use Rattle.records.specs.Within.{within}
 use Rattle.records.specs.Dates.{realDate}
 use Rattle.records.specs.Legs.{mostContracts, contractsFrom, withGroup, withContracts, withPaid, legFields, legOf, legBytes, termsInRange, inRange, goodLeg}
 use Rattle.records.specs.declared.legs.Leg.{Leg}
-use Rattle.records.proofs.TableLaws.{Ranges, ranges}
 
-pub two : (n : ℕ) → n < 65536 → n % 256 + 256 * (n / 256 % 256 + 256 * 0) ≡ n
-two n h = omega arith
+pub two : (n : ℕ) → n % 256 + 256 * (n / 256 + 256 * 0) ≡ n
+two n = omega arith
 
-pub four : (n : ℕ) → n < 4294967296 → n % 256 + 256 * (n / 256 % 256 + 256 * (n / 256 / 256 % 256 + 256 * (n / 256 / 256 / 256 % 256 + 256 * 0))) ≡ n
-four n h = omega arith
+pub four : (n : ℕ) → n % 256 + 256 * (n / 256 % 256 + 256 * (n / 256 / 256 % 256 + 256 * (n / 256 / 256 / 256 + 256 * 0))) ≡ n
+four n = omega arith
 
 one : (n : ℕ) → n + 256 * 0 ≡ n
 one n = omega arith
@@ -26,37 +27,37 @@ pub length-leg-bytes : (l : Leg) → length (legBytes l) ≡ 32
 unfolding legBytes leBytes
 length-leg-bytes l = refl
 
-fields-back : (top : ℕ) (l : Leg) → top < 65536 → Ranges top l → legFields (legBytes l) ≡ l
+fields-back : (l : Leg) → legFields (legBytes l) ≡ l
 unfolding legFields legBytes leBytes leAt
-fields-back top l t r =
+fields-back l =
     rw (
-      two (l .group) (omega arith),
+      two (l .group),
       one (l .side),
       one (l .right),
       one (l .style),
       one (l .market),
-      two (l .size) (omega arith),
-      four (l .underlying) (omega arith),
-      four (l .strike) (omega arith),
-      four (l .expiry) (omega arith),
-      four (l .contracts .0) (omega arith),
+      two (l .size),
+      four (l .underlying),
+      four (l .strike),
+      four (l .expiry),
+      four (l .contracts .0),
       one (l .settlement),
       one (l .paid),
     )
 
--- a leg in its ranges is read as it was said
-pub leg-back : (top : ℕ) (l : Leg) → top < 65536 → inRange top l ≡ true → legOf (legBytes l) ≡ l
+-- a leg is read as it was said
+pub leg-back : (l : Leg) → legOf (legBytes l) ≡ l
 unfolding legOf
-leg-back top l t e = rw (length-leg-bytes l) (fields-back top l t (ranges top l e))
+leg-back l = rw (length-leg-bytes l) (fields-back l)
 
 filler-zero : (l : Leg) → zeroIn (legBytes l) 26 31 ≡ true
 unfolding zeroIn allOf legBytes leBytes
 filler-zero l = refl
 
--- and its bytes are a good record
-pub leg-good : (top : ℕ) (l : Leg) → top < 65536 → inRange top l ≡ true → goodLeg top (legBytes l) ≡ true
+-- the bytes of a leg in its ranges are a good record
+pub leg-good : (top : ℕ) (l : Leg) → inRange top l ≡ true → goodLeg top (legBytes l) ≡ true
 unfolding goodLeg
-leg-good top l t e = rw (length-leg-bytes l, leg-back top l t e, e, filler-zero l)
+leg-good top l e = rw (length-leg-bytes l, leg-back l, e, filler-zero l)
 
 -- ---- a leg in its ranges stays in them
 
@@ -105,3 +106,37 @@ unfolding inRange termsInRange withPaid
 paid-range top mark l e a =
     let p = parts top l e in
     rw (p .0, p .1, p .2, p .3, le-leb 0 mark (omega arith), le-leb mark 1 a)
+
+-- ---- a record's date, looked at last
+
+-- all of a record but its date
+abbrev butDate : ℕ → List ℕ → Bool
+butDate top xs =
+    termsInRange top (legFields xs)
+    && (within 1 mostContracts (legFields xs .contracts .0) && within 0 2 (legFields xs .settlement) && within 0 1 (legFields xs .paid))
+    && zeroIn xs 26 31
+
+date-last : (t d c s p z : Bool) → t && d && c && s && p && z ≡ cond (t && (c && s && p) && z) d false
+date-last false d c s p z = refl
+date-last true true true true true true = refl
+date-last true true true true true false = refl
+date-last true true true true false z = refl
+date-last true true true false p z = refl
+date-last true true false s p z = refl
+date-last true false c s p z = go (c && s && p && z)
+  where
+    go : (b : Bool) → false ≡ cond b false false
+    go true = refl
+    go false = refl
+
+pub good-dated : (top : ℕ) (xs : List ℕ) → length xs ≡ 32 → goodLeg top xs ≡ cond (butDate top xs) (realDate (legFields xs .expiry)) false
+unfolding goodLeg inRange legOf
+good-dated top xs e =
+    let l = legFields xs in
+    rw e
+    (date-last (termsInRange top l) (realDate (l .expiry)) (within 1 mostContracts (l .contracts .0)) (within 0 2 (l .settlement)) (within 0 1 (l .paid))
+    (zeroIn xs 26 31))
+
+pub good-date : (top : ℕ) (xs : List ℕ) → goodLeg top xs ≡ true → realDate (legOf xs .expiry) ≡ true
+unfolding goodLeg
+good-date top xs e = parts top (legOf xs) (and-eq-true-iff _ _ .0 (and-eq-true-iff (eqb (length xs) 32) _ .0 e .1) .0) .1

@@ -1,29 +1,18 @@
 -- A good record is what says its fields: the bytes written for its leg are its own.
-use Prim.Native.Nat.{ℕ, zero, suc, _+_, _*_, _/_, _%_, _≤_, _<_}
+use Prim.Native.Nat.{ℕ, _+_}
 use mathlib.Core.Path.{_≡_, refl, sym, ap}
 use mathlib.Core.Bool.{true, _&&_, and-eq-true-iff}
 use mathlib.Core.List.{List, [], _∷_, _++_}
-use native.Mathlib.Numerals.{add-one}
 use native.Mathlib.Omega.{arith}
 use lib.Dec.{eqb}
-use lib.ListN.{length, getD, take, drop, replicate, length-drop, length-take}
+use lib.ListN.{length, take, drop, replicate, length-drop, length-take}
 use lib.Seq.{drop-cons, take-all, take-add}
 use borrow.Author.Tests.{eqb-true, le-leb}
-use Rattle.records.specs.Bytes.{leAt, leBytes, isZero, zeroIn}
+use Rattle.records.specs.Bytes.{AllBytes, leAt, isZero, zeroIn}
 use Rattle.records.specs.Legs.{legFields, legOf, legBytes, inRange, goodLeg}
-use Rattle.records.specs.Lists.{allOf, All}
+use Rattle.records.specs.Lists.{allOf}
 use Rattle.records.proofs.ByteLaws.{byte-is}
-use Rattle.records.proofs.ListLaws.{all-at}
-
--- the bytes of the number that bytes say
-le-back : (xs : List ℕ) (w at : ℕ) → All (λ b. b < 256) xs → at + w ≤ length xs → leBytes (leAt xs at w) w ≡ take w (drop at xs)
-unfolding leAt leBytes
-le-back xs zero at a h = refl
-le-back xs (suc w) at a h =
-    let b : getD xs at 0 < 256 = all-at (λ b. b < 256) xs at 0 a (omega arith) in
-    let low : (getD xs at 0 + 256 * leAt xs (at + 1) w) % 256 ≡ getD xs at 0 = omega arith in
-    let high : (getD xs at 0 + 256 * leAt xs (at + 1) w) / 256 ≡ leAt xs (at + 1) w = omega arith in
-    rw (low, high, le-back xs w (at + 1) a (omega arith), drop-cons xs at 0 (omega arith), add-one at)
+use Rattle.records.proofs.NumberLaws.{bytes-said}
 
 zeros-are : (xs : List ℕ) → allOf isZero xs ≡ true → xs ≡ replicate (length xs) 0
 unfolding allOf
@@ -36,7 +25,7 @@ zeros-are (x ∷ xs) e =
 more : (n m k : ℕ) (xs : List ℕ) → k ≡ n + m → take n xs ++ take m (drop n xs) ≡ take k xs
 more n m k xs e = rw e (sym (take-add n m xs))
 
-fields-bytes : (xs : List ℕ) → length xs ≡ 32 → All (λ b. b < 256) xs → zeroIn xs 26 31 ≡ true → legBytes (legFields xs) ≡ xs
+fields-bytes : (xs : List ℕ) → length xs ≡ 32 → AllBytes xs → zeroIn xs 26 31 ≡ true → legBytes (legFields xs) ≡ xs
 unfolding legBytes legFields zeroIn
 fields-bytes xs l a z =
     let w : length (take 6 (drop 26 xs)) ≡ 6 = simp (length-take, length-drop) (omega arith) in
@@ -55,13 +44,13 @@ fields-bytes xs l a z =
     let two : leAt xs 24 1 ∷ leAt xs 25 1 ∷ [] ≡ take 2 (drop 24 xs) =
     rw (byte-is xs 24, byte-is xs 25, drop-cons xs 24 0 (omega arith), drop-cons xs 25 0 (omega arith)) in
     rw (
-      le-back xs 2 0 a (omega arith),
+      bytes-said xs 2 0 a (omega arith),
       four,
-      le-back xs 2 6 a (omega arith),
-      le-back xs 4 8 a (omega arith),
-      le-back xs 4 12 a (omega arith),
-      le-back xs 4 16 a (omega arith),
-      le-back xs 4 20 a (omega arith),
+      bytes-said xs 2 6 a (omega arith),
+      bytes-said xs 4 8 a (omega arith),
+      bytes-said xs 4 12 a (omega arith),
+      bytes-said xs 4 16 a (omega arith),
+      bytes-said xs 4 20 a (omega arith),
       two,
       f,
     )
@@ -69,7 +58,7 @@ fields-bytes xs l a z =
     (take-all 32 xs (omega arith)))
 
 -- of a good record
-pub record-back : (top : ℕ) (xs : List ℕ) → All (λ b. b < 256) xs → goodLeg top xs ≡ true → legBytes (legOf xs) ≡ xs
+pub record-back : (top : ℕ) (xs : List ℕ) → AllBytes xs → goodLeg top xs ≡ true → legBytes (legOf xs) ≡ xs
 unfolding goodLeg legOf
 record-back top xs a e =
     let p = and-eq-true-iff (eqb (length xs) 32) (inRange top (legOf xs) && zeroIn xs 26 31) .0 e in

@@ -1,94 +1,83 @@
--- No two different outcomes meet a promise of this crate: each says that the result is one definition of the inputs.
-use mathlib.Core.Path.{_≡_, sym, _∙_}
-use mathlib.Core.Bool.{Bool}
-use mathlib.Core.List.{List}
-use Prim.Native.Nat.{ℕ}
-use Rattle.records.specs.Bytes.{leAt}
-use Rattle.records.specs.Chunks.{chunkAt}
-use Rattle.records.specs.Legs.{contractsFrom, legOf, legBytes, unitsOf, plusUnits, plusContracts, lessContracts, withContracts, withPaid}
-use Rattle.records.specs.Claims.{claimOf}
-use Rattle.records.specs.Dates.{leapYear, realDate}
-use Rattle.records.specs.Lines.{sameLine, sameLineSide}
-use Rattle.records.specs.Order.{firstOf}
-use Rattle.records.specs.Tables.{tableNumber, goodRecord, inLimit, wholeTable, wholeTables, fieldChecks, fieldsChecks, countedOf}
-use Rattle.records.specs.declared.counts.Contracts.{Contracts}
-use Rattle.records.specs.declared.counts.Units.{Units}
-use Rattle.records.specs.declared.legs.Leg.{Leg}
-use Rattle.records.specs.declared.claims.Claim.{Claim}
-use Rattle.records.specs.declared.refusals.Fault.{Fault}
-use Rattle.records.specs.declared.tables.Kind.{Kind}
-use Rattle.records.specs.declared.tables.Counted.{Counted}
+-- No two different outcomes satisfy a promise of this crate: a law for each public function, named after it, with a part for
+-- the result and one for each lent slice. A law cites the contract itself: one that settles less is refused here.
+use Rattle.records.specs.OneOutcome.{OneOutcome}
+use Rattle.records.proofs.OutcomeLaws.{by-parts}
+use Rattle.records.proofs as records
 
--- two outcomes that are each the promised one are the same
-pub one-outcome : {A : Type 0} {promised r s : A} → r ≡ promised → s ≡ promised → r ≡ s
-one-outcome p q = p ∙ sym q
+check-table-unique : OneOutcome records.check_table.ended records.check_table.Reads.Learnt
+check-table-unique = by-parts λ κs a o p x y. cc
 
-u16-at-unique : (part : List ℕ) (at r s : ℕ) → r ≡ leAt part at 2 → s ≡ leAt part at 2 → r ≡ s
-u16-at-unique part at r s = one-outcome
+field-fault-unique : OneOutcome records.field_fault.ended records.field_fault.Reads.Learnt
+field-fault-unique = by-parts λ κs a o p x y. cc
 
-leap-year-unique : (year : ℕ) (r s : Bool) → r ≡ leapYear year → s ≡ leapYear year → r ≡ s
-leap-year-unique year r s = one-outcome
+fields-fault-unique : OneOutcome records.fields_fault.ended records.fields_fault.Reads.Learnt
+fields-fault-unique = by-parts λ κs a o p x y. cc
 
-real-date-unique : (n : ℕ) (r s : Bool) → r ≡ realDate n → s ≡ realDate n → r ≡ s
-real-date-unique n r s = one-outcome
+good-record-unique : OneOutcome records.good_record.ended records.good_record.Reads.Learnt
+good-record-unique = by-parts λ κs a o p x y. cc
 
-leg-at-unique : (table : List ℕ) (i : ℕ) (r s : Leg) → r ≡ legOf (chunkAt 32 table i) → s ≡ legOf (chunkAt 32 table i) → r ≡ s
-leg-at-unique table i r s = one-outcome
+whole-table-unique : OneOutcome records.whole_table.ended records.whole_table.Reads.Learnt
+whole-table-unique = by-parts λ κs a o p x y. cc
 
-claim-at-unique : (table : List ℕ) (i : ℕ) (r s : Claim) → r ≡ claimOf (chunkAt 32 table i) → s ≡ claimOf (chunkAt 32 table i) → r ≡ s
-claim-at-unique table i r s = one-outcome
+whole-tables-unique : OneOutcome records.whole_tables.ended records.whole_tables.Reads.Learnt
+whole-tables-unique = by-parts λ κs a o p x y. cc
 
-of-unique : (n : ℕ) (r s : Contracts) → r ≡ contractsFrom n → s ≡ contractsFrom n → r ≡ s
-of-unique n r s = one-outcome
+in-limit-unique : OneOutcome records.in_limit.ended records.in_limit.Reads.Learnt
+in-limit-unique = by-parts λ κs a o p x y. cc
 
-units-unique : (c : Contracts) (size : ℕ) (r s : Units) → r ≡ unitsOf c size → s ≡ unitsOf c size → r ≡ s
-units-unique c size r s = one-outcome
+table-number-unique : OneOutcome records.table_number.ended records.table_number.Reads.Learnt
+table-number-unique = by-parts λ κs a o p x y. cc
 
-plus-unique : (a b r s : Units) → r ≡ plusUnits a b → s ≡ plusUnits a b → r ≡ s
-plus-unique a b r s = one-outcome
+leg-at-unique : OneOutcome records.leg_at.ended records.leg_at.Reads.Learnt
+leg-at-unique = by-parts λ κs a o p x y. cc
 
-contracts-plus-unique : (a b r s : Contracts) → r ≡ plusContracts a b → s ≡ plusContracts a b → r ≡ s
-contracts-plus-unique a b r s = one-outcome
+leg-bytes-unique : OneOutcome records.leg_bytes.ended records.leg_bytes.Reads.Learnt
+leg-bytes-unique = by-parts λ κs a o p x y. cc
 
-less-unique : (a b r s : Contracts) → r ≡ lessContracts a b → s ≡ lessContracts a b → r ≡ s
-less-unique a b r s = one-outcome
+claim-at-unique : OneOutcome records.claim_at.ended records.claim_at.Reads.Learnt
+claim-at-unique = by-parts λ κs a o p x y. cc
 
-with-contracts-unique : (l : Leg) (c : Contracts) (r s : Leg) → r ≡ withContracts l c → s ≡ withContracts l c → r ≡ s
-with-contracts-unique l c r s = one-outcome
+leg-with-contracts-unique : OneOutcome records.legs.Leg.with_contracts.ended records.legs.Leg.with_contracts.Reads.Learnt
+leg-with-contracts-unique = by-parts λ κs a o p x y. cc
 
-with-paid-unique : (l : Leg) (mark : ℕ) (r s : Leg) → r ≡ withPaid l mark → s ≡ withPaid l mark → r ≡ s
-with-paid-unique l mark r s = one-outcome
+leg-with-paid-unique : OneOutcome records.legs.Leg.with_paid.ended records.legs.Leg.with_paid.Reads.Learnt
+leg-with-paid-unique = by-parts λ κs a o p x y. cc
 
-leg-bytes-unique : (l : Leg) (r s : List ℕ) → r ≡ legBytes l → s ≡ legBytes l → r ≡ s
-leg-bytes-unique l r s = one-outcome
+u16-at-unique : OneOutcome records.u16_at.ended records.u16_at.Reads.Learnt
+u16-at-unique = by-parts λ κs a o p x y. cc
 
-same-line-unique : (a b : Leg) (r s : Bool) → r ≡ sameLine a b → s ≡ sameLine a b → r ≡ s
-same-line-unique a b r s = one-outcome
+same-line-unique : OneOutcome records.same_line.ended records.same_line.Reads.Learnt
+same-line-unique = by-parts λ κs a o p x y. cc
 
-same-line-side-unique : (a b : Leg) (r s : Bool) → r ≡ sameLineSide a b → s ≡ sameLineSide a b → r ≡ s
-same-line-side-unique a b r s = one-outcome
+same-line-side-unique : OneOutcome records.same_line_side.ended records.same_line_side.Reads.Learnt
+same-line-side-unique = by-parts λ κs a o p x y. cc
 
-table-number-unique : (kind : Kind) (r s : ℕ) → r ≡ tableNumber kind → s ≡ tableNumber kind → r ≡ s
-table-number-unique kind r s = one-outcome
+real-date-unique : OneOutcome records.real_date.ended records.real_date.Reads.Learnt
+real-date-unique = by-parts λ κs a o p x y. cc
 
-good-record-unique : (kind : Kind) (part : List ℕ) (r s : Bool) → r ≡ goodRecord kind part → s ≡ goodRecord kind part → r ≡ s
-good-record-unique kind part r s = one-outcome
+leap-year-unique : OneOutcome records.leap_year.ended records.leap_year.Reads.Learnt
+leap-year-unique = by-parts λ κs a o p x y. cc
 
-whole-table-unique : (kind : Kind) (bytes : ℕ) (r s : Bool) → r ≡ wholeTable kind bytes → s ≡ wholeTable kind bytes → r ≡ s
-whole-table-unique kind bytes r s = one-outcome
+contracts-of-unique : OneOutcome records.counts.Contracts.of.ended records.counts.Contracts.of.Reads.Learnt
+contracts-of-unique = by-parts λ κs a o p x y. cc
 
-in-limit-unique : (kind : Kind) (records : ℕ) (r s : Bool) → r ≡ inLimit kind records → s ≡ inLimit kind records → r ≡ s
-in-limit-unique kind records r s = one-outcome
+contracts-units-unique : OneOutcome records.counts.Contracts.units.ended records.counts.Contracts.units.Reads.Learnt
+contracts-units-unique = by-parts λ κs a o p x y. cc
 
-whole-tables-unique : (h p c : ℕ) (r s : Bool) → r ≡ wholeTables h p c → s ≡ wholeTables h p c → r ≡ s
-whole-tables-unique h p c r s = one-outcome
+contracts-number-unique : OneOutcome records.counts.Contracts.number.ended records.counts.Contracts.number.Reads.Learnt
+contracts-number-unique = by-parts λ κs a o p x y. cc
 
-field-fault-unique : (kind : Kind) (table : List ℕ) (r s : Fault)
-    → r ≡ firstOf (fieldChecks kind table) → s ≡ firstOf (fieldChecks kind table) → r ≡ s
-field-fault-unique kind table r s = one-outcome
+contracts-plus-unique : OneOutcome records.counts.Contracts.plus.ended records.counts.Contracts.plus.Reads.Learnt
+contracts-plus-unique = by-parts λ κs a o p x y. cc
 
-check-table-unique : (kind : Kind) (table : List ℕ) (r s : Counted) → r ≡ countedOf kind table → s ≡ countedOf kind table → r ≡ s
-check-table-unique kind table r s = one-outcome
+contracts-less-unique : OneOutcome records.counts.Contracts.less.ended records.counts.Contracts.less.Reads.Learnt
+contracts-less-unique = by-parts λ κs a o p x y. cc
 
-fields-fault-unique : (h p c : List ℕ) (r s : Fault) → r ≡ firstOf (fieldsChecks h p c) → s ≡ firstOf (fieldsChecks h p c) → r ≡ s
-fields-fault-unique h p c r s = one-outcome
+units-none-unique : OneOutcome records.counts.Units.none.ended records.counts.Units.none.Reads.Learnt
+units-none-unique = by-parts λ κs a o p x y. cc
+
+units-plus-unique : OneOutcome records.counts.Units.plus.ended records.counts.Units.plus.Reads.Learnt
+units-plus-unique = by-parts λ κs a o p x y. cc
+
+units-number-unique : OneOutcome records.counts.Units.number.ended records.counts.Units.number.Reads.Learnt
+units-number-unique = by-parts λ κs a o p x y. cc

@@ -49,7 +49,7 @@ legBytes l =
     ++ (l .settlement ∷ l .paid ∷ [])
     ++ replicate 6 0
 
--- 'contracts, 1 to 100,000'; of a line and side that the day's fills leave, too: 'at most 100,000 contracts' (02, [4])
+-- contracts: '1 to 100,000'; of a line and side that the day's fills leave, too: 'at most 100,000 contracts' (02, [4])
 abbrev pub mostContracts : ℕ
 mostContracts = 100000
 

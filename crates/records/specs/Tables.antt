@@ -36,7 +36,7 @@ limitOf Claims = 32
 abbrev pub inLimit : Kind → ℕ → Bool
 inLimit kind records = leb records (limitOf kind)
 
--- 'group, 0 to 32; in holdings 0 only'
+-- group: '0 to 32; in holdings 0 only'
 abbrev pub goodRecord : Kind → List ℕ → Bool
 goodRecord Holdings xs = goodLeg 0 xs
 goodRecord Placement xs = goodLeg 32 xs

@@ -4,6 +4,8 @@ ghost use Rattle.records.specs.Dates.{leapYear, february, daysIn, realDa
 ghost use Rattle.records.specs.Within.{within};
 use crate::within::is_within;
 
+pub(crate) const FIRST_DATE: u32 = 20000101;
+
 pub fn leap_year(year: u32) -> bool
     ensures { λ r. ⌜ r ≡ leapYear year ⌝ }
 {
@@ -49,5 +51,5 @@ fn good_day(year: u32, month: u32, day: u32) -> bool
 pub fn real_date(n: u32) -> bool
     ensures { λ r. ⌜ r ≡ realDate n ⌝ }
 {
-    is_within(20000101, 20991231, n) & good_day(n / 10000, n / 100 % 100, n % 100)
+    is_within(FIRST_DATE, 20991231, n) & good_day(n / 10000, n / 100 % 100, n % 100)
 }

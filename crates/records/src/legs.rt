@@ -1,10 +1,13 @@
 // A leg record: its fields, where they stand in its 32 bytes, and their ranges.
 ghost use mathlib.Core.Path.{_≡_};
+ghost use mathlib.Core.Bool.{true, _&&_};
 ghost use Prim.Native.Nat.{_≤_};
 ghost use lib.ListN.{length};
-ghost use Rattle.records.specs.Bytes.{leBytes, fourOf};
+ghost use Rattle.records.specs.Bytes.{leBytes, fourOf, zeroIn};
 ghost use Rattle.records.specs.Chunks.{chunkAt};
-ghost use Rattle.records.specs.Legs.{legFields, legOf, legBytes, withContracts, withPaid, termsInRange, inRange, goodLeg};
+ghost use Rattle.records.specs.Dates.{realDate};
+ghost use Rattle.records.specs.Legs.{mostContracts, legFields, legOf, legBytes, withContracts, withPaid, termsInRange, goodLeg};
+ghost use Rattle.records.specs.Within.{within};
 use crate::counts::Contracts;
 use crate::dates::real_date;
 use crate::fields::Four;
@@ -148,13 +151,13 @@ pub fn leg_bytes(leg: Leg) -> [u8; 32]
     let wide = wide_fields(leg);
     [
         (leg.group % 256) as u8,
-        (leg.group / 256 % 256) as u8,
+        (leg.group / 256) as u8,
         leg.side,
         leg.right,
         leg.style,
         leg.market,
         (leg.size % 256) as u8,
-        (leg.size / 256 % 256) as u8,
+        (leg.size / 256) as u8,
         wide.underlying.0,
         wide.underlying.1,
         wide.underlying.2,
@@ -195,21 +198,24 @@ fn terms_in_range(top: u16, leg: Leg) -> bool
         & is_within(1, 99999999, leg.strike)
 }
 
-// The date takes the longest, and is looked at only where all before it is right.
-fn in_range(top: u16, leg: Leg) -> bool
-    ensures { λ r. ⌜ r ≡ inRange top leg ⌝ }
+fn rest_in_range(leg: Leg) -> bool
+    ensures { λ r. ⌜ r ≡ (within 1 mostContracts (leg .contracts .0) && within 0 2 (leg .settlement) && within 0 1 (leg .paid)) ⌝ }
 {
-    if terms_in_range(top, leg) {
-        return real_date(leg.expiry)
-            & is_within(1, MOST_CONTRACTS, leg.contracts.number())
-            & is_within(0, 2, leg.settlement as u32)
-            & is_within(0, 1, leg.paid as u32);
-    }
-    false
+    is_within(1, MOST_CONTRACTS, leg.contracts.number())
+        & is_within(0, 2, leg.settlement as u32)
+        & is_within(0, 1, leg.paid as u32)
 }
 
-// Whether the part is a leg record with each field in its range and a group of at most `top`. The filler is zero
-// just where the number of the last eight bytes is that of their first two.
+// The filler is zero just where the number of the last eight bytes is that of their first two.
+fn zero_filler(part: &[u8]) -> bool
+    requires { ⌜ length (now part) ≡ 32 ⌝ }
+    ensures { λ r. ⌜ r ≡ zeroIn (now (part .entry)) 26 31 ⌝ }
+{
+    u64_in(part, 24) == u16_in(part, 24) as u64
+}
+
+// Whether the part is a leg record with each field in its range and a group of at most `top`. The date takes the
+// longest, and is looked at only where all else is right.
 pub(crate) fn good_leg(top: u16, part: &[u8]) -> bool
     ensures { λ r. ⌜ r ≡ goodLeg top (now (part .entry)) ⌝ }
 {
@@ -217,5 +223,31 @@ pub(crate) fn good_leg(top: u16, part: &[u8]) -> bool
         return false;
     }
     let leg = leg_fields(part);
-    in_range(top, leg) & (u64_in(part, 24) == u16_in(part, 24) as u64)
+    if terms_in_range(top, leg) & rest_in_range(leg) & zero_filler(part) {
+        return real_date(leg.expiry);
+    }
+    false
+}
+
+// The same of a part of 32 bytes, by a date that is known to be real: it is not worked out again.
+pub(crate) fn good_leg_beside(known: u32, top: u16, part: &[u8]) -> bool
+    requires { ⌜ realDate known ≡ true ⌝ }
+    requires { ⌜ length (now part) ≡ 32 ⌝ }
+    ensures { λ r. ⌜ r ≡ goodLeg top (now (part .entry)) ⌝ }
+{
+    let leg = leg_fields(part);
+    if terms_in_range(top, leg) & rest_in_range(leg) & zero_filler(part) {
+        if leg.expiry == known {
+            return true;
+        }
+        return real_date(leg.expiry);
+    }
+    false
+}
+
+pub(crate) fn expiry_in(part: &[u8]) -> u32
+    requires { ⌜ length (now part) ≡ 32 ⌝ }
+    ensures { λ r. ⌜ r ≡ legOf (now (part .entry)) .expiry ⌝ }
+{
+    u32_in(part, 16)
 }

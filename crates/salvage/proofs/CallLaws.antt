@@ -27,7 +27,7 @@ use Rattle.blocks.specs.Reader.{copied}
 use Rattle.blocks.specs.Steps.{Sized}
 use Rattle.blocks.specs.Writer.{writeChecks}
 use Rattle.blocks.specs.declared.forms.Origin.{Origin}
-use Rattle.blocks.proofs.ReadLaws.{copied-room}
+use Rattle.blocks.proofs.Laws.{copied-room}
 use Rattle.salvage.specs.Pieces.{mostBytes, pieceCount, piecesOf}
 use Rattle.salvage.specs.Kept.{leadOf, originFor, dropNumber, isKept, keptOf, droppedOf, keptIn, droppedIn, soundFile}
 use Rattle.salvage.specs.Calls.{startChecks, roomChecks, endChecks, salvageChecks, answered, salvageOf}

@@ -22,10 +22,7 @@ use Rattle.blocks.specs.File.{tablesOf, tablesIn, originIn, fileOf, withinLimit
 use Rattle.blocks.specs.RoundTrips.{Reads, Writes}
 use Rattle.blocks.specs.declared.forms.Origin.{Origin}
 use Rattle.blocks.specs.declared.answers.Alone.the-variants.{Sound}
-use Rattle.blocks.proofs.BlockLaws.{kept-kept}
-use Rattle.blocks.proofs.ReadThenWritten.{read-writes-back}
-use Rattle.blocks.proofs.WrittenThenRead.{written-reads-back}
-use Rattle.blocks.proofs.SoundBlocks.{is-sound}
+use Rattle.blocks.proofs.Laws.{kept-kept, read-writes-back, written-reads-back, is-sound}
 use Rattle.salvage.specs.Pieces.{mostBytes, piecesOf}
 use Rattle.salvage.specs.Kept.{originFor, keptIn, droppedIn, soundFile}
 use Rattle.salvage.specs.Calls.{startChecks, roomChecks, endChecks, salvageChecks, answered, salvageOf, left}

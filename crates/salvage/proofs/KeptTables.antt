@@ -21,12 +21,7 @@ use Rattle.blocks.specs.Alone.{ownTables}
 use Rattle.blocks.specs.Writer.{takenTables, writeChecks}
 use Rattle.blocks.specs.Steps.{Sized}
 use Rattle.blocks.specs.declared.forms.Origin.{Origin}
-use Rattle.blocks.proofs.BlockLaws.{kind-from, shape-is}
-use Rattle.blocks.proofs.FileLaws.{recordChecks}
-use Rattle.blocks.proofs.GoodBlocks.{length-joined}
-use Rattle.blocks.proofs.WriteLaws.{some-not-empty}
-use Rattle.blocks.proofs.GoodFields.{GoodRecords, pass-good, good-pass, table-of, own-records, good-joined}
-use Rattle.blocks.proofs.SoundBlocks.{SoundAlone, sound-sized}
+use Rattle.blocks.proofs.Laws.{kind-from, shape-is, recordChecks, length-joined, some-not-empty, GoodRecords, pass-good, good-pass, table-of, own-records, good-joined, SoundAlone, sound-sized}
 use Rattle.salvage.specs.Kept.{dropNumber, isKept, keptOf}
 use Rattle.salvage.specs.Steps.{AllKept}
 use Rattle.salvage.proofs.SoundLaws.{kept-is}

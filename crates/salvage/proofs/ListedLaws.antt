@@ -14,7 +14,7 @@ use Rattle.records.proofs.ChunkLaws.{length-chunks, getD-chunks}
 use Rattle.records.proofs.ListLaws.{all-append, all-map, map-all}
 use Rattle.records.proofs.Measures.{sum-append}
 use Rattle.blocks.specs.Block.{originOf, headFits, shaped}
-use Rattle.blocks.proofs.AloneLaws.{alone-torn, alone-3}
+use Rattle.blocks.proofs.Laws.{alone-torn, alone-3}
 use Rattle.blocks.specs.Forms.{markOf}
 use Rattle.blocks.specs.declared.forms.Form.{Form}
 use Rattle.blocks.specs.declared.forms.Origin.{Origin}

@@ -15,7 +15,7 @@ use Rattle.blocks.specs.Alone.{aloneOf}
 use Rattle.blocks.specs.declared.forms.Origin.{Origin}
 use Rattle.blocks.specs.declared.answers.Alone.{Alone}
 use Rattle.blocks.specs.declared.answers.Alone.the-variants.{Sound, Refused}
-use Rattle.blocks.proofs.SoundBlocks.{refused-numbered}
+use Rattle.blocks.proofs.Laws.{refused-numbered}
 use Rattle.salvage.specs.Pieces.{pieceCount, piecesOf}
 use Rattle.salvage.specs.Kept.{leadBy, leadOf, dropNumber, isKept, keptOf}
 use Rattle.salvage.specs.declared.pieces.Lead.the-variants.{Of, Missing}

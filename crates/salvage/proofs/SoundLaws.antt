@@ -17,7 +17,7 @@ use Rattle.blocks.specs.declared.forms.Form.{Form}
 use Rattle.blocks.specs.declared.forms.Form.the-variants.{Old, New}
 use Rattle.blocks.specs.declared.forms.Origin.{Origin}
 use Rattle.blocks.specs.declared.answers.Alone.the-variants.{Refused}
-use Rattle.blocks.proofs.SoundBlocks.{SoundAlone, sound-is, is-sound, refused-numbered}
+use Rattle.blocks.proofs.Laws.{SoundAlone, sound-is, is-sound, refused-numbered}
 use Rattle.salvage.specs.Kept.{sameOrigin, numberBy, dropNumber}
 
 -- ---- form and account

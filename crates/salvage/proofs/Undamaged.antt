@@ -14,9 +14,7 @@ use Rattle.blocks.specs.File.{blocksOf, tablesIn, originIn, fileOf, withinLimit
 use Rattle.blocks.specs.RoundTrips.{Reads}
 use Rattle.blocks.specs.declared.forms.Origin.{Origin}
 use Rattle.blocks.specs.declared.answers.Alone.the-variants.{Sound}
-use Rattle.blocks.proofs.FileLaws.{whole-file}
-use Rattle.blocks.proofs.GoodBlocks.{GoodBlocks, whole-table, read-good}
-use Rattle.blocks.proofs.SoundBlocks.{SoundOf, is-sound, file-sound}
+use Rattle.blocks.proofs.Laws.{whole-file, GoodBlocks, whole-table, read-good, SoundOf, is-sound, file-sound}
 use Rattle.salvage.specs.Pieces.{pieceCount, piecesOf}
 use Rattle.salvage.specs.Kept.{leadOf, originFor, dropNumber, isKept, keptOf, droppedOf, keptIn, droppedIn, soundFile}
 use Rattle.salvage.specs.Steps.{AllKept}

@@ -6,6 +6,7 @@ use mathlib.Core.Bool.{true, false, not}
 use mathlib.Core.List.{List, [], _∷_}
 use lib.Dec.{eqb}
 use lib.ListN.{length, take, drop}
+use Rattle.records.specs.Bytes.{AllBytes}
 use Rattle.records.specs.Chunks.{chunkAt}
 use Rattle.records.specs.Lists.{All, same, only, sumOf}
 use Rattle.records.specs.Listed.{Entry, indicesOf, numbersOf}
@@ -13,7 +14,7 @@ use Rattle.blocks.specs.Forms.{markOf}
 use Rattle.blocks.specs.Block.{sumsAgree}
 use Rattle.blocks.specs.File.{tablesOf, tablesIn, originIn}
 use Rattle.blocks.specs.Alone.{aloneOf}
-use Rattle.blocks.specs.RoundTrips.{Reads, AllBytes}
+use Rattle.blocks.specs.RoundTrips.{Reads}
 use Rattle.blocks.specs.declared.forms.Form.{Form}
 use Rattle.blocks.specs.declared.forms.Origin.{Origin}
 use Rattle.blocks.specs.declared.answers.Alone.the-variants.{Sound}

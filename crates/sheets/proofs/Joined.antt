@@ -11,7 +11,7 @@ use Rattle.records.specs.declared.claims.Claim.{Claim}
 use Rattle.records.specs.declared.legs.Leg.{Leg}
 use Rattle.spreads.specs.Boxes.{LongBox, marginOf}
 use Rattle.spreads.specs.Spreads.{groupOf, Spread}
-use Rattle.spreads.proofs.BoxLaws.{no-box-test, join-margins}
+use Rattle.spreads.proofs.Laws.{no-box-test, join-margins}
 use Rattle.sheets.specs.Joined.{joinedPlacement, joinedClaims}
 use Rattle.sheets.specs.Sheets.{claimFor, totalOf, OldRule, SheetRule}
 use Rattle.sheets.proofs.JoinedClaims.{joined-length, joined-numbered, claim-joined, claim-stays, joined-total}

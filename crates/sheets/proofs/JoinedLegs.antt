@@ -16,7 +16,7 @@ use Rattle.records.proofs.ListLaws.{every, map-all}
 use Rattle.records.proofs.Measures.{sum-ext, sum-keep, sum-lin, sum-map}
 use Rattle.spreads.specs.Prices.{intrinsic, value, longAt, shortAt, at}
 use Rattle.spreads.specs.Spreads.{groupOf}
-use Rattle.spreads.proofs.Merge.{Together}
+use Rattle.spreads.proofs.Laws.{Together}
 use Rattle.sheets.specs.Joined.{joinedLeg, joinedPlacement}
 
 module _ (last g : ℕ) where

@@ -74,7 +74,7 @@ module _ (p c : List ℕ) (n g : ℕ) (sp : Sound Placement p) (sc : Sound Claim
 
   sound : Sound Placement placement
   sound =
-      table-sound Placement legOf legBytes Ranged length-leg-bytes (λ l q. leg-back 32 l (omega arith) q) (λ l q. leg-good 32 l (omega arith) q)
+      table-sound Placement legOf legBytes Ranged length-leg-bytes (λ l q. leg-back l) (λ l q. leg-good 32 l q)
       (joinedPlacement (n + 1) g (legsOf p)) legs-stay
       (rw (length-map (legsOf p) (joinedLeg (n + 1) g)) (placed-few p sp))
 
@@ -92,7 +92,7 @@ module _ (p c : List ℕ) (n g : ℕ) (sp : Sound Placement p) (sc : Sound Claim
           table-sound Claims claimOf claimBytes ClaimRanges length-claim-bytes claim-back claim-good joined-claims ranged
           (simp (length-map, length-take) (omega (arith, few)));
       legs =
-          table-says Placement legOf legBytes Ranged length-leg-bytes (λ l q. leg-back 32 l (omega arith) q) (λ l q. leg-good 32 l (omega arith) q)
+          table-says Placement legOf legBytes Ranged length-leg-bytes (λ l q. leg-back l) (λ l q. leg-good 32 l q)
           (joinedPlacement (n + 1) g (legsOf p)) legs-stay;
       claimed = table-says Claims claimOf claimBytes ClaimRanges length-claim-bytes claim-back claim-good joined-claims ranged;
     },

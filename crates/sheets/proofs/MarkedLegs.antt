@@ -23,7 +23,7 @@ use Rattle.records.proofs.ChunkLaws.{chunks-whole}
 use Rattle.records.proofs.ListLaws.{map-all}
 use Rattle.spreads.specs.Spreads.{groupOf}
 use Rattle.spreads.specs.Work.{valuesOf, workUpTo, workOf}
-use Rattle.spreads.proofs.GroupSums.{total-ext}
+use Rattle.spreads.proofs.Laws.{total-ext}
 use Rattle.sheets.specs.Demands.{PassMarks, PassTwice, PassSound}
 use Rattle.sheets.specs.Marks.{markedLeg, markedRecord, markedFirst, markedPlacement, markOn, marksIn}
 use Rattle.sheets.specs.Sheets.{unpaidLong, OldRule, SheetRule}

@@ -12,7 +12,7 @@ use Rattle.sheets.specs.declared.links.Digits.{Digits}
 
 -- which of 509 buckets a leg is in: legs of one line and side are in one
 unfoldable pub bucketOf : Leg → ℕ
-bucketOf l = (l .strike + 3 * l .expiry + 31 * l .underlying + 7 * l .side + 5 * l .right) % 509
+bucketOf l = (l .strike + 3 * l .expiry + 31 * l .underlying + 7 * l .side + 5 * l .right + 17 * l .size) % 509
 
 -- the fields of few values as one number
 abbrev pub sortsOf : Leg → ℕ

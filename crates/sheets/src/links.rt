@@ -27,7 +27,8 @@ fn bucket_of(leg: Leg) -> usize
         + 3 * (leg.expiry as usize)
         + 31 * (leg.underlying as usize)
         + 7 * (leg.side as usize)
-        + 5 * (leg.right as usize);
+        + 5 * (leg.right as usize)
+        + 17 * (leg.size as usize);
     terms % BUCKETS
 }
 

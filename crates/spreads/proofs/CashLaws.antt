@@ -5,7 +5,7 @@ use mathlib.Core.Bool.{true, false, _&&_, and-eq-true-iff}
 use mathlib.Core.List.{List, [], _∷_, _++_}
 use native.Mathlib.Omega.{arith}
 use lib.Dec.{eqb}
-use lib.IntN.{pos}
+use lib.IntN.{ℤ, pos}
 use lib.ListN.{length, drop, getD}
 use borrow.Author.Tests.{eqb-true, eq-eqb}
 use Rattle.records.specs.Lists.{allOf}
@@ -99,19 +99,22 @@ module _ (g : ℕ) (placement : List Leg) {f : Fault} (e : f ≡ firstOf (groupR
 
 -- ---- what the call's answer says
 
-due-mills : (f : Fault) (w m : ℕ) → dueAnswer f w ≡ Mills (pos m) → (f ≡ Nothing) × (m ≡ w)
+pub due-mills : (f : Fault) (w : ℕ) (m : ℤ) → dueAnswer f w ≡ Mills m → (f ≡ Nothing) × (m ≡ pos w)
 due-mills Nothing w m e = (refl, cc)
 due-mills (Is r) w m e = let z : _≡_ {A = ℕ} 0 1 = cc in absurd (omega arith)
+
+same-mills : (m w : ℕ) → pos m ≡ pos w → m ≡ w
+same-mills m w e = cc
 
 pub answered : (xs : List ℕ) (g mills : ℕ) → cashCall xs g ≡ Mills (pos mills)
     → Spread g (groupIn xs g) × FitForCash (groupIn xs g) × (mills ≡ worstLoss (groupIn xs g))
 unfolding cashCall cashRule
 answered xs g mills e =
-    let a = due-mills _ (worstLoss (groupIn xs g)) mills e in
+    let a = due-mills _ (worstLoss (groupIn xs g)) (pos mills) e in
     let rule = groupRule g (legsOf xs) in
     let fit = ask (isFit (groupIn xs g)) 21 2 g ∷ [] in
     let p = pass-right (tableChecks Placement xs) (rule ++ fit) (clear _ (a .0)) in
-    (rule-to-spread g (legsOf xs) (pass-left rule fit p), fit-facts (groupIn xs g) (pass-right rule fit p .0), a .1)
+    (rule-to-spread g (legsOf xs) (pass-left rule fit p), fit-facts (groupIn xs g) (pass-right rule fit p .0), same-mills mills (worstLoss (groupIn xs g)) (a .1))
 
 pub given : (xs : List ℕ) (g : ℕ) → firstOf (tableChecks Placement xs) ≡ Nothing → Spread g (groupIn xs g) → FitForCash (groupIn xs g)
     → cashCall xs g ≡ Mills (pos (worstLoss (groupIn xs g)))

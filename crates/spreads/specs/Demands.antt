@@ -19,12 +19,12 @@ use Rattle.records.specs.declared.refusals.Refusal.{Refusal}
 use Rattle.records.specs.declared.refusals.Fault.the-variants.{Nothing, Is}
 use Rattle.records.specs.declared.tables.Kind.the-variants.{Placement}
 use Rattle.spreads.specs.Spreads.{groupOf, groupIn, oneOf, doubled, noneDoubled, outlives, noneOutlives, legsUpTo, Spread, groupRule}
-use Rattle.spreads.specs.Prices.{longAt, shortAt, at}
+use Rattle.spreads.specs.Prices.{longAt, shortAt, at, Covers}
 use Rattle.spreads.specs.Strikes.{strikesOf, worstLoss, netsOf}
 use Rattle.spreads.specs.Boxes.{LongBox, isLongBox, halfOf, marginOf}
 use Rattle.spreads.specs.Cash.{FitForCash, isFit, cashCall}
 use Rattle.spreads.specs.Bench.{verticals}
-use Rattle.spreads.specs.Calls.{worksheetCall, listLeft, marginsFrom, marginsCall}
+use Rattle.spreads.specs.Calls.{marginCall, worksheetCall, listLeft, marginsFrom, marginsCall}
 use Rattle.spreads.specs.declared.calls.Due.the-variants.{Mills}
 use Rattle.spreads.specs.declared.calls.Listed.{Listed}
 use Rattle.spreads.specs.declared.calls.Listed.the-variants.{Entries, Refused}
@@ -140,18 +140,14 @@ MarginsJust = (legs : List Leg) → MarginJust legs
 abbrev pub FitJust : Type 0
 FitJust = (legs : List Leg) → (isFit legs ≡ true) ↔ FitForCash legs
 
--- an amount covers a group at every price n/d, both sides taken d times
-abbrev pub CashCovers : ℕ → List Leg → Type 0
-CashCovers mills legs = (d : ℕ) → 1 ≤ d → (n : ℕ) → shortAt d (at n) legs ≤ longAt d (at n) legs + d * mills
-
 -- 'a spread, all European, all stated as cash, one expiry; then the cash required is its margin by document 01': it covers
 -- the group at every price, and nothing less does; a long box needs none
 pub record RightCash (g mills : ℕ) (legs : List Leg) : Type 0 where
   pub spread : Spread g legs
   pub fit : FitForCash legs
   pub margin : mills ≡ worstLoss legs
-  pub covers : CashCovers mills legs
-  pub least : (m : ℕ) → m < mills → ¬ CashCovers m legs
+  pub covers : Covers mills legs
+  pub least : (m : ℕ) → m < mills → ¬ Covers m legs
   pub box : LongBox legs → mills ≡ 0
 
 abbrev pub CashRight : Type 0
@@ -161,6 +157,44 @@ CashRight = (placement : List ℕ) (g mills : ℕ) → cashCall placement g ≡ 
 abbrev pub CashGiven : Type 0
 CashGiven = (placement : List ℕ) (g : ℕ) → firstOf (tableChecks Placement placement) ≡ Nothing → Spread g (groupIn placement g)
     → FitForCash (groupIn placement g) → cashCall placement g ≡ Mills (pos (worstLoss (groupIn placement g)))
+
+-- ---- margin, margins and worksheet
+
+-- where the call answers, the group is a spread, and the answer is its margin
+abbrev pub MarginRight : Type 0
+MarginRight = (placement : List ℕ) (g : ℕ) (mills : ℤ) → marginCall placement g ≡ Mills mills
+    → Spread g (groupIn placement g) × (mills ≡ pos (marginOf (groupIn placement g)))
+
+-- and every group of a sound placement that is a spread is answered so
+abbrev pub MarginGiven : Type 0
+MarginGiven = (placement : List ℕ) (g : ℕ) → firstOf (tableChecks Placement placement) ≡ Nothing → Spread g (groupIn placement g)
+    → marginCall placement g ≡ Mills (pos (marginOf (groupIn placement g)))
+
+-- where it answers, groups 1 to n are spreads, and the margin of group g stands at index g - 1
+abbrev pub MarginsRight : Type 0
+MarginsRight = (placement : List ℕ) (n : ℕ) (out : List ℤ) (m : ℕ) → marginsCall placement n (length out) ≡ Entries m
+    → (m ≡ n)
+    × ((g : ℕ) → 1 ≤ g → g ≤ n
+    → Spread g (groupIn placement g)
+    × (getD (listLeft (Entries m) (marginsFrom (legsOf placement) 1 n) out) (g - 1) (pos 0) ≡ pos (marginOf (groupIn placement g))))
+
+abbrev pub MarginsGiven : Type 0
+MarginsGiven = (placement : List ℕ) (n room : ℕ) → firstOf (tableChecks Placement placement) ≡ Nothing
+    → ((g : ℕ) → 1 ≤ g → g ≤ n → Spread g (groupIn placement g)) → n ≤ room → marginsCall placement n room ≡ Entries n
+
+-- where it answers, the group is a spread, and what stands in the lent slices is its strikes and its nets
+abbrev pub WorksheetRight : Type 0
+WorksheetRight = (placement : List ℕ) (g : ℕ) (strikes : List ℕ) (nets : List ℤ) (n : ℕ)
+    → worksheetCall placement g (length strikes) (length nets) ≡ Entries n
+    → (let legs = groupIn placement g in
+    Spread g legs
+    × (take n (listLeft (Entries n) (strikesOf legs) strikes) ≡ strikesOf legs)
+    × (take n (listLeft (Entries n) (netsOf legs) nets) ≡ netsOf legs))
+
+abbrev pub WorksheetGiven : Type 0
+WorksheetGiven = (placement : List ℕ) (g a b : ℕ) → firstOf (tableChecks Placement placement) ≡ Nothing → Spread g (groupIn placement g)
+    → length (strikesOf (groupIn placement g)) ≤ a → length (strikesOf (groupIn placement g)) ≤ b
+    → worksheetCall placement g a b ≡ Entries (length (strikesOf (groupIn placement g)))
 
 -- ---- what is left in lent slices
 

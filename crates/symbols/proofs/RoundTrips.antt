@@ -7,7 +7,7 @@ use native.Mathlib.Omega.{arith}
 use lib.Dec.{eqb}
 use lib.ListN.{length, getD, length-map}
 use borrow.Author.Tests.{ltb-true, lt-ltb, eqb-false, eq-eqb, le-leb, not-true}
-use Rattle.records.specs.Bytes.{zeroIn}
+use Rattle.records.specs.Bytes.{AllBytes, zeroIn}
 use Rattle.records.specs.Chunks.{recordsOf}
 use Rattle.records.specs.Legs.{legOf, legBytes, inRange, goodLeg, isPaid}
 use Rattle.records.specs.Lists.{All}
@@ -20,7 +20,7 @@ use Rattle.records.proofs.LegLaws.{leg-back, leg-good, length-leg-bytes}
 use Rattle.records.proofs.ListLaws.{map-all, every}
 use Rattle.records.proofs.TableLaws.{ranges, whole}
 use Rattle.symbols.specs.Calls.{placeOfLine, knownRoot, legOfLine, recordsFor, holdingsOf, goodUnpaid, placeOfRecord, knownTerms, lineOfRecord, linesFor, listOf}
-use Rattle.symbols.specs.Demands.{AllBytes, ImportOfExport, ExportOfImport, OneList}
+use Rattle.symbols.specs.Demands.{ImportOfExport, ExportOfImport, OneList}
 use Rattle.symbols.specs.Lines.{linesOf, rootIn, lineSays, lineLeg, lineText}
 use Rattle.symbols.specs.Roots.{rootsOf, nameOf, termsOf, legTerms}
 use Rattle.symbols.proofs.AnswerLaws.{records-length}
@@ -130,7 +130,7 @@ module _ (t : List ℕ) (g : GoodRoots t) where
     sound = leg-sound (termsOf root) xs (root-terms t g at known) (taken .said)
 
     read : legOf (legBytes leg) ≡ leg
-    read = leg-back 0 leg (omega arith) sound
+    read = leg-back leg
 
     not-paid : isPaid leg ≡ false
     unfolding legOfLine lineLeg
@@ -148,7 +148,7 @@ module _ (t : List ℕ) (g : GoodRoots t) where
     unfolding knownTerms goodUnpaid
     record-again =
         record {
-          good = rw (leg-good 0 leg (omega arith) sound, read, not-paid);
+          good = rw (leg-good 0 leg sound, read, not-paid);
           known = rw place-again (lt-ltb at (length roots) known);
         }
 

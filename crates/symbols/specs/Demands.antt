@@ -4,6 +4,7 @@ use Prim.Native.Nat.{ℕ, _*_, _/_, _≤_, _<_}
 use mathlib.Core.Path.{_≡_}
 use mathlib.Core.List.{List, [], map}
 use lib.ListN.{length, getD, take, drop}
+use Rattle.records.specs.Bytes.{AllBytes}
 use Rattle.records.specs.Chunks.{recordsOf}
 use Rattle.records.specs.Lists.{All}
 use Rattle.records.specs.Order.{firstOf}
@@ -21,10 +22,6 @@ use Rattle.symbols.specs.declared.exports.Exported.{Exported}
 use Rattle.symbols.specs.declared.exports.Exported.the-variants.{Bytes, Refused as NotExported}
 
 -- ---- 'Round trips hold both ways for holdings with mark 0.'
-
--- each entry is a byte, as in every slice of bytes
-abbrev pub AllBytes : List ℕ → Type 0
-AllBytes xs = All (λ x. x < 256) xs
 
 -- Of all holdings that export takes: its list is imported, with the same roots, into any lent table with room, and says those holdings.
 -- (A record with mark 1 it does not take.)

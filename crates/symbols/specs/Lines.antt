@@ -115,7 +115,7 @@ lineLeg t l =
 
 -- ---- a leg written as a line
 
--- '21-character symbols: root of 6 ..; YYMMDD; C or P; strike in mills as 8 digits'
+-- '21-character symbols ..: root of 6 ..; YYMMDD; C or P; strike in mills as 8 digits'
 unfoldable pub symbolText : List ℕ → Leg → List ℕ
 symbolText name l = name ++ lastDigits 6 (l .expiry % 1000000) ++ (rightChar (l .right) ∷ []) ++ lastDigits 8 (l .strike)
 

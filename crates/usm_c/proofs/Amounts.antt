@@ -1,4 +1,4 @@
--- An amount of an answer is never below zero, so that the word for it is the amount itself.
+-- No amount of an answer is below zero: the statement of specs/Demands.antt, and the laws by which the calls use it.
 use mathlib.Core.Path.{_≡_, refl}
 use mathlib.Core.Bool.{Bool, true, false, cond}
 use mathlib.Core.List.{List, _++_}
@@ -30,6 +30,7 @@ use Rattle.sheets.specs.declared.sheet.Verdict.{Verdict}
 use Rattle.verdicts.specs.FileVerdicts.{afterReading, fileVerdict}
 use Rattle.usm_c.specs.Answers.{IsMills, DueMills, RequiredMills, VerdictMills}
 use Rattle.usm_c.specs.Outcomes.{singleAs, longAs, pairAs}
+use Rattle.usm_c.specs.Demands.{NoneBelowZero}
 
 -- the bits of such an amount are read as the amount
 pub mills-fit : (z : ℤ) → SFits w64 z → IsMills z
@@ -100,3 +101,7 @@ pair-mills valuation long paid short = go (eqb paid 0) (eqb paid 1)
     go true b = answered false
     go false true = answered true
     go false false = tt
+
+pub none-below-zero : NoneBelowZero
+none-below-zero =
+    record { margin = margin-mills; cash = cash-mills; sheet = sheet-mills; file = file-mills; single = single-mills; pair = pair-mills }

@@ -20,7 +20,7 @@ use Rattle.records.proofs.PassLaws.{Pass, clear, unclear, pass-left, pass-right
 use Rattle.records.proofs.TableLaws.{whole}
 use Rattle.spreads.specs.Calls.{groupChecks}
 use Rattle.spreads.specs.Spreads.{groupOf, groupIn, groupRule}
-use Rattle.spreads.proofs.RuleLaws.{rule-to-spread, spread-to-rule}
+use Rattle.spreads.proofs.Laws.{rule-to-spread, spread-to-rule}
 use Rattle.verdicts.specs.Steps.{Answered, groupTable, worksheetLines}
 
 -- ---- those of one group

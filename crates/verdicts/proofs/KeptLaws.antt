@@ -6,31 +6,26 @@ use native.Mathlib.Omega.{arith}
 use lib.ListN.{length, length-append}
 use Rattle.records.specs.Chunks.{chunkAt}
 use Rattle.records.specs.Claims.{claimOf}
+use Rattle.records.specs.Order.{firstOf}
 use Rattle.records.specs.Tables.{tableChecks, legsOf}
 use Rattle.records.specs.declared.claims.Claim.{Claim}
+use Rattle.records.specs.declared.refusals.Fault.the-variants.{Nothing}
 use Rattle.records.specs.declared.tables.Kind.the-variants.{Placement, Claims}
 use Rattle.records.proofs.OrderLaws.{first-then}
-use Rattle.records.proofs.PassLaws.{unclear}
 use Rattle.records.proofs.TableLaws.{whole, length-claims}
 use Rattle.spreads.specs.Calls.{groupChecks}
 use Rattle.spreads.specs.Spreads.{groupIn, groupRule}
-use Rattle.spreads.specs.Steps.{Checked}
 use Rattle.spreads.specs.Boxes.{marginOf}
-use Rattle.spreads.proofs.RuleLaws.{spread-to-no-refusal}
-use Rattle.sheets.specs.Demands.{Sound, Kept}
-use Rattle.sheets.proofs.ClaimLaws.{claim-at}
-use Rattle.sheets.proofs.Judged.{fields-pass}
+use Rattle.spreads.proofs.Laws.{spread-to-no-refusal}
+use Rattle.sheets.specs.Demands.{Kept}
+use Rattle.sheets.proofs.Laws.{claim-at, sound-checked}
 use Rattle.verdicts.specs.Steps.{Answered}
 use Rattle.verdicts.specs.TableText.{shownOf, shownIn, groupText, shownText}
 use Rattle.verdicts.proofs.ShownLaws.{shown-more}
 use Rattle.verdicts.proofs.TableFits.{shown-fits}
 
-sound-checked : (xs : List ℕ) → Sound Placement xs → Checked xs
-unfolding tableChecks
-sound-checked xs s = unclear (tableChecks Placement xs) (s .whole, fields-pass Placement xs (s .fields))
-
 module _ (h p c : List ℕ) (kept : Kept h p c) where
-  pub kept-checked : Checked p
+  pub kept-checked : firstOf (tableChecks Placement p) ≡ Nothing
   kept-checked = sound-checked p (kept .placement)
 
   pub kept-groups : length c / 32 ≤ 32

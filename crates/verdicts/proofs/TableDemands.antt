@@ -11,16 +11,14 @@ use Rattle.records.specs.declared.legs.Leg.{Leg}
 use Rattle.records.proofs.ListLaws.{all-append}
 use Rattle.records.proofs.Measures.{sum-append}
 use Rattle.blocks.specs.File.{tablesIn}
-use Rattle.blocks.proofs.Accounts.{moved-alike}
+use Rattle.blocks.proofs.Laws.{moved-alike}
 use Rattle.spreads.specs.Spreads.{groupOf}
 use Rattle.spreads.specs.Strikes.{lossOf}
 use Rattle.spreads.specs.Boxes.{LongBox, halfOf, marginOf}
 use Rattle.spreads.specs.Work.{total}
-use Rattle.spreads.proofs.GroupSums.{total-ext}
-use Rattle.spreads.proofs.Nets.{margin-nets}
-use Rattle.spreads.proofs.BoxLaws.{no-box-test, box-margin, other-margin}
+use Rattle.spreads.proofs.Laws.{total-ext, margin-nets, no-box-test, box-margin, other-margin}
 use Rattle.sheets.specs.Sheets.{claimFor, totalOf}
-use Rattle.sheets.proofs.Groups.{total-claims}
+use Rattle.sheets.proofs.Laws.{total-claims}
 use Rattle.verdicts.specs.TableText.{shownOf, shownIn, tableText}
 use Rattle.verdicts.specs.TableDemands.{TableReadsBack, TableTotal, TableMargins, TableBoxes, MovedTable, RefusedPrints}
 use Rattle.verdicts.proofs.Demands.{file-just, moved-verdict}

@@ -11,7 +11,7 @@ use Rattle.records.proofs.PutLaws.{put-holds, put-front}
 use Rattle.records.proofs.TableLaws.{length-claims}
 use Rattle.blocks.specs.File.{tableOf, tablesIn}
 use Rattle.blocks.specs.Reader.{copied}
-use Rattle.blocks.proofs.ReadLaws.{copied-room}
+use Rattle.blocks.proofs.Laws.{copied-room}
 use Rattle.sheets.specs.declared.sheet.Verdict.the-variants.{Accepted, Refused}
 use Rattle.verdicts.specs.FileVerdicts.{fileVerdict}
 use Rattle.verdicts.specs.Printed.{refuseLine}

@@ -1,32 +1,31 @@
 -- Every table fits: 32 lines of groups of at most 29 bytes each, and 256 lines of strikes of at most 30, are 8,608 bytes.
-use mathlib.Core.Path.{_≡_, refl, ap}
+use mathlib.Core.Path.{_≡_, ap}
 use mathlib.Core.List.{List, [], _∷_}
 use Prim.Native.Nat.{ℕ, zero, suc, _+_, _*_, _≤_, _<_}
 use native.Mathlib.Omega.{arith}
-use lib.Dec.{leb}
 use lib.IntN.{ℤ, pos, negsuc, natAbs}
 use lib.ListN.{length, length-append}
 use Rattle.records.specs.Claims.{mostMills}
-use Rattle.records.specs.Lists.{only, sumOf, All}
-use Rattle.records.specs.Tables.{legsOf}
-use Rattle.records.specs.declared.legs.Leg.{Leg}
-use Rattle.records.proofs.ListLaws.{every, map-all}
-use Rattle.records.proofs.Measures.{only-le, sum-bound}
+use Rattle.records.specs.Lists.{All}
+use Rattle.records.specs.Order.{firstOf}
+use Rattle.records.specs.Tables.{tableChecks, legsOf}
+use Rattle.records.specs.declared.refusals.Fault.the-variants.{Nothing}
+use Rattle.records.specs.declared.tables.Kind.the-variants.{Placement}
+use Rattle.records.proofs.ListLaws.{map-all}
 use Rattle.spreads.specs.Prices.{net}
-use Rattle.spreads.specs.Spreads.{groupOf, groupIn}
-use Rattle.spreads.specs.Steps.{Checked, strikesEnd}
+use Rattle.spreads.specs.Spreads.{groupIn}
 use Rattle.spreads.specs.Strikes.{strikesOf, netsOf}
 use Rattle.spreads.specs.Boxes.{marginOf}
 use Rattle.spreads.specs.Work.{total}
-use Rattle.spreads.proofs.Bounds.{sides-small, table-few, group-ranges, group-few}
-use Rattle.spreads.proofs.BoxBounds.{margin-small}
-use Rattle.spreads.proofs.GroupSums.{legs-in-groups}
-use Rattle.spreads.proofs.Signed.{abs-minus}
-use Rattle.spreads.proofs.StrikeLaws.{strikes-small, strikes-count}
+use Rattle.spreads.proofs.Laws.{sides-small, table-few, group-ranges, group-few, margin-small, legs-in-groups, abs-minus, strikes-small, strikes-count}
 use Rattle.verdicts.specs.Printed.{amountOf}
 use Rattle.verdicts.specs.TableText.{shownOf, shownIn, groupLine, strikeLine, strikeLines, groupText, shownText}
 use Rattle.verdicts.proofs.DecimalLaws.{decimal-short}
 use Rattle.verdicts.proofs.ShownLaws.{length-group-line, length-strike-line, shown-suc}
+
+-- a strike has at most eight digits: it is below this
+abbrev nineDigits : ℕ
+nineDigits = 100000000
 
 -- ---- one line
 
@@ -38,13 +37,13 @@ amount-within : (net : ℤ) → natAbs net ≤ mostMills → length (amountOf ne
 amount-within (pos n) h = omega (arith, decimal-short 18 n (omega arith))
 amount-within (negsuc n) h = omega (arith, decimal-short 18 (suc n) (omega arith))
 
-strike-line-short : (strike : ℕ) (net : ℤ) → strike < strikesEnd → natAbs net ≤ mostMills → length (strikeLine strike net) ≤ 30
+strike-line-short : (strike : ℕ) (net : ℤ) → strike < nineDigits → natAbs net ≤ mostMills → length (strikeLine strike net) ≤ 30
 strike-line-short strike net h m =
     omega (arith, length-strike-line strike net, decimal-short 7 strike (omega arith), amount-within net m)
 
 -- ---- the lines of one group
 
-strike-lines-short : (strikes : List ℕ) (nets : List ℤ) → All (λ k. k < strikesEnd) strikes → All (λ z. natAbs z ≤ mostMills) nets
+strike-lines-short : (strikes : List ℕ) (nets : List ℤ) → All (λ k. k < nineDigits) strikes → All (λ z. natAbs z ≤ mostMills) nets
     → length (strikeLines strikes nets) ≤ 30 * length strikes
 unfolding strikeLines
 strike-lines-short [] nets a b = omega arith
@@ -59,8 +58,8 @@ strike-lines-short (s ∷ ss) (n ∷ ns) a b =
 
 -- ---- the groups of a placement
 
-module _ (xs : List ℕ) (p : Checked xs) where
-  net-within : (g k : ℕ) → k < strikesEnd → natAbs (net (groupIn xs g) k) ≤ mostMills
+module _ (xs : List ℕ) (p : firstOf (tableChecks Placement xs) ≡ Nothing) where
+  net-within : (g k : ℕ) → k < nineDigits → natAbs (net (groupIn xs g) k) ≤ mostMills
   unfolding net
   net-within g k h =
       let parts = sides-small k (groupIn xs g) (group-ranges xs p g) h (group-few xs p g) in
@@ -76,7 +75,7 @@ module _ (xs : List ℕ) (p : Checked xs) where
         length-append (groupLine g (marginOf legs)) (strikeLines (strikesOf legs) (netsOf legs)),
         group-line-short g (marginOf legs) h (margin-small xs p g),
         strike-lines-short (strikesOf legs) (netsOf legs) small
-            (map-all (net legs) (λ z. natAbs z ≤ mostMills) (λ k. k < strikesEnd) (strikesOf legs) (net-within g) small),
+            (map-all (net legs) (λ z. natAbs z ≤ mostMills) (λ k. k < nineDigits) (strikesOf legs) (net-within g) small),
         strikes-count legs,
       )
 

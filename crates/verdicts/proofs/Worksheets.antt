@@ -6,6 +6,8 @@ use native.Mathlib.Omega.{arith}
 use lib.ListN.{length, take, length-map}
 use borrow.Author.Tests.{le-leb}
 use Rattle.records.specs.declared.refusals.Refusal.{Refusal}
+use Rattle.records.specs.declared.refusals.Fault.the-variants.{Nothing}
+use Rattle.records.specs.Order.{firstOf}
 use Rattle.records.specs.Tables.{tableChecks, legsOf}
 use Rattle.records.specs.declared.tables.Kind.the-variants.{Placement}
 use Rattle.records.proofs.PassLaws.{clear, unclear, pass-left}
@@ -14,17 +16,14 @@ use Rattle.spreads.specs.Calls.{groupChecks, strikesListed, worksheetCall, list
 use Rattle.records.specs.declared.legs.Leg.{Leg}
 use Rattle.spreads.specs.Prices.{net}
 use Rattle.spreads.specs.Spreads.{groupIn, groupRule}
-use Rattle.spreads.specs.Steps.{Checked}
 use Rattle.spreads.specs.Strikes.{strikesOf, netsOf}
 use Rattle.spreads.specs.declared.calls.Listed.{Listed}
 use Rattle.spreads.specs.declared.calls.Listed.the-variants.{Entries, Refused}
-use Rattle.spreads.proofs.Answers.{list-in}
-use Rattle.spreads.proofs.Bounds.{group-few}
+use Rattle.spreads.proofs.Laws.{list-in, group-few, strikes-count}
 use Rattle.verdicts.specs.Steps.{Answered}
-use Rattle.spreads.proofs.StrikeLaws.{strikes-count}
 
 module _ (xs : List ℕ) (g : ℕ) (a : Answered xs g) where
-  answered-checked : Checked xs
+  answered-checked : firstOf (tableChecks Placement xs) ≡ Nothing
   unfolding groupChecks
   answered-checked =
       unclear (tableChecks Placement xs) (pass-left (tableChecks Placement xs) (groupRule g (legsOf xs)) (clear _ a))

@@ -4,13 +4,13 @@ use mathlib.Core.List.{List}
 use Prim.Native.Nat.{ℕ}
 use lib.IntN.{ℤ, pos}
 use lib.ListN.{length, take}
+use Rattle.records.specs.Bytes.{AllBytes}
 use Rattle.records.specs.Lists.{sumOf, most, All}
 use Rattle.records.specs.Tables.{legsOf}
 use Rattle.records.specs.declared.refusals.Refusal.{Refusal}
 use Rattle.blocks.specs.File.{tablesIn}
 use Rattle.blocks.specs.Writer.{filled}
 use Rattle.blocks.specs.Moves.{moveOf}
-use Rattle.blocks.specs.RoundTrips.{AllBytes}
 use Rattle.blocks.specs.declared.forms.Form.{Form}
 use Rattle.blocks.specs.declared.forms.Origin.{Origin}
 use Rattle.blocks.specs.declared.answers.Writing.the-variants.{Wrote}

@@ -7,7 +7,7 @@ use Rattle.records.specs.Legs.{legBytes}
 use Rattle.records.proofs.legs.leg_bytes.Statement.{statement}
 use Rattle.records.proofs.legs.leg_bytes.Tie as tie
 
-two : (n : ℕ) → leBytes n 2 ≡ n % 256 ∷ n / 256 % 256 ∷ []
+two : (n : ℕ) → leBytes n 2 ≡ n % 256 ∷ n / 256 ∷ []
 unfolding leBytes
 two n = refl
 

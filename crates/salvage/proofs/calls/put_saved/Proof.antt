@@ -9,8 +9,7 @@ use Rattle.records.specs.declared.refusals.Fault.the-variants.{Nothing}
 use Rattle.blocks.specs.File.{Tables, tables, fileOf}
 use Rattle.blocks.specs.Writer.{filled}
 use Rattle.blocks.specs.declared.answers.Writing.{Writing}
-use Rattle.blocks.proofs.FlatLaws.{length-file}
-use Rattle.blocks.proofs.WriteLaws.{file-bytes, write-done}
+use Rattle.blocks.proofs.Laws.{length-file, file-bytes, write-done}
 use Rattle.salvage.specs.Calls.{roomChecks, left}
 use Rattle.salvage.proofs.CallLaws.{room-pass}
 use Rattle.salvage.proofs.calls.put_saved.Statement.{statement}

@@ -4,7 +4,7 @@ use Rattle.verdicts.proofs.TableFile.{refused-text, accepted-text, acce
 use Rattle.verdicts.specs.FileVerdicts.{fileVerdict}
 use Rattle.sheets.specs.declared.sheet.Verdict.the-variants.{Accepted}
 use Rattle.blocks.specs.File.{tablesIn}
-use Rattle.blocks.proofs.ReadLaws.{TableBytes}
+use Rattle.blocks.proofs.Laws.{TableBytes}
 use Rattle.records.specs.declared.tables.Kind.the-variants.{Placement, Claims}
 use native.Mathlib.Omega.{arith}
 use lib.ListN.{length, take}
