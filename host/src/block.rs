@@ -18,6 +18,22 @@ pub const ACCOUNT_END: usize = 504;
 /// Where in a block check A stands, and check B behind it.
 pub const CHECKS_AT: usize = 508;
 
+/// What a block says of itself, right or wrong.
+pub struct Header {
+    pub kind: u8,
+    pub records: u8,
+    pub number: u16,
+    /// How many blocks the file has.
+    pub blocks: u16,
+}
+
+impl Header {
+    pub fn of(block: &[u8]) -> Header {
+        let u16_at = |at: usize| u16::from_le_bytes([block[at], block[at + 1]]);
+        Header { kind: block[4], records: block[5], number: u16_at(6), blocks: u16_at(8) }
+    }
+}
+
 /// Makes checks A and B of one block fit its bytes.
 pub fn seal(block: &mut [u8]) {
     let (mut a, mut b) = (0u16, 0u16);

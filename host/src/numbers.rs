@@ -28,7 +28,8 @@ pub fn grouped(number: impl Display) -> String {
 /// use usm::numbers::dollars;
 /// assert_eq!([dollars(1_500_000), dollars(-1)], ["$1,500.000", "-$0.001"]);
 /// ```
-pub fn dollars(mills: i64) -> String {
+pub fn dollars(mills: impl Into<i128>) -> String {
+    let mills = mills.into();
     let sign = if mills < 0 { "-" } else { "" };
     let mills = mills.unsigned_abs();
     format!("{sign}${}.{:03}", grouped(mills / 1_000), mills % 1_000)
@@ -39,7 +40,8 @@ pub fn dollars(mills: i64) -> String {
 /// ```
 /// assert_eq!(usm::numbers::amount(1_500_000), "$1,500.000 (1500000 mills)");
 /// ```
-pub fn amount(mills: i64) -> String {
+pub fn amount(mills: impl Into<i128>) -> String {
+    let mills = mills.into();
     format!("{} ({mills} mills)", dollars(mills))
 }
 

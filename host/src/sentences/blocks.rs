@@ -1,7 +1,7 @@
 //! Refusals 2, 3 and 20: what is wrong with a block.
 
 use crate::block::{
-    account_of, ACCOUNT_AT, ACCOUNT_END, BLOCK_BYTES, CHECKS_AT, RECORDS_AT, RECORDS_IN_BLOCK,
+    account_of, Header, ACCOUNT_AT, ACCOUNT_END, BLOCK_BYTES, CHECKS_AT, RECORDS_AT, RECORDS_IN_BLOCK,
 };
 use crate::form::Form;
 use crate::numbers::{count, ordinal};
@@ -56,11 +56,11 @@ pub fn mark_fault(block: &[u8], first: Form, named: &str) -> Option<String> {
 
 /// The number of a block, or the count of blocks in it.
 fn number_fault(block: &[u8], number: usize, blocks: usize) -> Option<String> {
-    let u16_at = |at: usize| usize::from(u16::from_le_bytes([block[at], block[at + 1]]));
-    if u16_at(6) != number {
-        Some(format!("its number is {} and should be {number}", u16_at(6)))
-    } else if u16_at(8) != blocks {
-        Some(format!("it says that the file has {}, not {blocks}", count(u16_at(8) as u64, "block")))
+    let says = Header::of(block);
+    if usize::from(says.number) != number {
+        Some(format!("its number is {} and should be {number}", says.number))
+    } else if usize::from(says.blocks) != blocks {
+        Some(format!("it says that the file has {}, not {blocks}", count(u64::from(says.blocks), "block")))
     } else {
         None
     }
@@ -68,7 +68,8 @@ fn number_fault(block: &[u8], number: usize, blocks: usize) -> Option<String> {
 
 /// A fault of the block by itself, behind its mark.
 pub fn header_fault(block: &[u8], form: Form) -> Option<String> {
-    let (kind, records) = (block[4], usize::from(block[5]));
+    let Header { kind, records, .. } = Header::of(block);
+    let records = usize::from(records);
     let zero = |bytes: &[u8]| bytes.iter().all(|&byte| byte == 0);
     if table_of(kind).is_none() {
         Some(format!("its kind is {kind}, not 1 (holdings), 2 (placement) or 3 (claims)"))
@@ -88,8 +89,8 @@ pub fn header_fault(block: &[u8], form: Form) -> Option<String> {
 
 /// A fault of the block behind those before it, each of which is in form.
 fn order_fault(file: &[u8], number: usize) -> Option<String> {
-    let heads: Vec<(u8, usize)> =
-        file.chunks_exact(BLOCK_BYTES).take(number + 1).map(|block| (block[4], block[5].into())).collect();
+    let says = file.chunks_exact(BLOCK_BYTES).take(number + 1).map(Header::of);
+    let heads: Vec<(u8, usize)> = says.map(|header| (header.kind, header.records.into())).collect();
     let (kind, _) = *heads.last()?;
     let table = table_of(kind)?;
     if let Some(&(before, records)) = heads.iter().rev().nth(1) {

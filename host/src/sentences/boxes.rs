@@ -14,14 +14,24 @@ use crate::numbers::{amount, dollars};
 /// assert_eq!(of_margin(1_000_000, &[(50_000, 0), (60_000, -1_000_000)]), "$1,000.000 (1000000 mills)");
 /// ```
 pub fn of_margin(margin: i64, worksheet: &[(u32, i64)]) -> String {
+    let half = half_of(margin, worksheet).map(|difference| {
+        format!(
+            ", half of {}, the difference in strikes of this European long box times its units",
+            dollars(difference)
+        )
+    });
+    format!("{}{}", amount(margin), half.unwrap_or_default())
+}
+
+/// What the margin of a European long box is half of: its net at every strike. None for any other group.
+///
+/// ```
+/// use usm::sentences::half_of;
+/// assert_eq!(half_of(500_000, &[(50_000, 1_000_000), (60_000, 1_000_000)]), Some(1_000_000));
+/// assert_eq!(half_of(0, &[(50_000, 1_000_000), (60_000, 1_000_000)]), None);
+/// ```
+pub fn half_of(margin: i64, worksheet: &[(u32, i64)]) -> Option<i64> {
     let net = worksheet.first().map_or(0, |(_, net)| *net);
     let gains_alike = worksheet.iter().all(|(_, other)| *other == net) && net > 0;
-    let half = match gains_alike && margin > 0 {
-        true => format!(
-            ", half of {}, the difference in strikes of this European long box times its units",
-            dollars(net)
-        ),
-        false => String::new(),
-    };
-    format!("{}{half}", amount(margin))
+    (gains_alike && margin > 0).then_some(net)
 }

@@ -1,6 +1,6 @@
 //! Refusal 4: which field is out of range, and what stands in it.
 
-use crate::block::{BLOCK_BYTES, RECORDS_AT};
+use crate::block::{Header, BLOCK_BYTES, RECORDS_AT};
 use crate::fields::*;
 use crate::numbers::ordinal;
 use crate::records::{
@@ -35,7 +35,7 @@ pub fn of_record(table: Table, record: &[u8; RECORD_BYTES], place: u64) -> Optio
 
 /// The first record of one block, whose sums and form are good, that has a field out of range.
 pub fn in_block(block: &[u8], table: Table) -> Option<String> {
-    (0..u64::from(block[5])).find_map(|place| {
+    (0..u64::from(Header::of(block).records)).find_map(|place| {
         let faults = faults(table, &record(block, table, place)?)?;
         Some(format!("its {} record {faults}", ordinal(place)))
     })
@@ -49,20 +49,36 @@ fn faults(table: Table, record: &[u8; RECORD_BYTES]) -> Option<String> {
         .filter(|(value, range)| !(range.holds)(*value))
         .map(|(value, range)| format!("its {} is {value} and must be {}", range.name, range.says))
         .collect();
-    let text = match table {
-        Table::Holdings | Table::Placement => raw_text(record),
-        Table::Claims => format!("claim {} {}", get(record, 0, GROUP), get(record, 0, CLAIM_MARGIN)),
-    };
+    let text = record_text(table, record);
     (!faults.is_empty()).then(|| format!("(`{text}`): {}", faults.join("; ")))
 }
 
-/// A record of a file whose blocks are in form.
+/// The words of a record, whether or not its fields are in range.
+fn record_text(table: Table, record: &[u8; RECORD_BYTES]) -> String {
+    match table {
+        Table::Holdings | Table::Placement => raw_text(record),
+        Table::Claims => format!("claim {} {}", get(record, 0, GROUP), get(record, 0, CLAIM_MARGIN)),
+    }
+}
+
+/// The words of each record of one table, in a file whose blocks are in form; their fields need not be in range.
+pub fn record_texts(file: &[u8], table: Table) -> Vec<String> {
+    records(file, table).map(|record| record_text(table, &record)).collect()
+}
+
 fn record(file: &[u8], table: Table, place: u64) -> Option<[u8; RECORD_BYTES]> {
+    records(file, table).nth(usize::try_from(place).ok()?)
+}
+
+/// The records of a file whose blocks are in form.
+fn records(file: &[u8], table: Table) -> impl Iterator<Item = [u8; RECORD_BYTES]> + '_ {
     file.chunks_exact(BLOCK_BYTES)
-        .filter(|block| u64::from(block[4]) == table.number())
-        .flat_map(|block| block[RECORDS_AT..].chunks_exact(RECORD_BYTES).take(block[5].into()))
-        .nth(usize::try_from(place).ok()?)
-        .and_then(|record| record.try_into().ok())
+        .map(|block| (Header::of(block), block))
+        .filter(move |(header, _)| u64::from(header.kind) == table.number())
+        .flat_map(|(header, block)| {
+            block[RECORDS_AT..].chunks_exact(RECORD_BYTES).take(header.records.into())
+        })
+        .map(|record| record.try_into().expect("a chunk is one record"))
 }
 
 fn ranges(table: Table) -> Vec<Range> {

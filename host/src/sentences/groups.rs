@@ -7,8 +7,7 @@ use crate::records::{Leg, OptionType, Settlement, Side, Style, MOST_CLAIMS};
 use crate::text::date_text;
 
 pub fn sentence(placement: &[Leg], group: u64, reason: Reason) -> Option<String> {
-    let legs: Vec<Placed> =
-        (0..).zip(placement).filter(|(_, leg)| group > 0 && u64::from(leg.group) == group).collect();
+    let legs = legs_of(placement, group);
     let wrong = match reason {
         Reason::NoLeg if (1..=MOST_CLAIMS as u64).contains(&group) => {
             String::from("has no leg in the placement")
@@ -43,14 +42,25 @@ fn unfit(legs: &[Placed]) -> Option<String> {
 }
 
 fn unequal(legs: &[Placed], option_type: OptionType, name: &str) -> String {
-    let units = |side| -> i64 {
-        let counted = legs.iter().filter(|(_, leg)| leg.side == side && leg.option_type == option_type);
-        counted.map(|(_, leg)| leg.units()).sum()
-    };
+    let (long, short) = units(legs, option_type);
     format!(
         "has {} long {name} units and {} short {name} units; they must be equal \
          (a leg's units are its contracts times its unit size)",
-        grouped(units(Side::Long)),
-        grouped(units(Side::Short)),
+        grouped(long),
+        grouped(short),
     )
+}
+
+/// The units of one type that a group's legs are long, and those that they are short.
+pub fn units(legs: &[Placed], option_type: OptionType) -> (i64, i64) {
+    let of_side = |side| -> i64 {
+        let counted = legs.iter().filter(|(_, leg)| leg.side == side && leg.option_type == option_type);
+        counted.map(|(_, leg)| leg.units()).sum()
+    };
+    (of_side(Side::Long), of_side(Side::Short))
+}
+
+/// The legs of a group, with their places.
+pub fn legs_of(placement: &[Leg], group: u64) -> Vec<Placed> {
+    (0..).zip(placement).filter(|(_, leg)| group > 0 && u64::from(leg.group) == group).collect()
 }

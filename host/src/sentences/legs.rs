@@ -19,53 +19,66 @@ pub fn named((at, leg): Placed, of_what: &str) -> String {
 pub const OF_PLACEMENT: &str = " of the placement";
 
 pub fn sentence(placement: &[Leg], place: u64, reason: Reason) -> Option<String> {
-    let index = usize::try_from(place).ok()?;
-    let leg = placement.get(index).filter(|leg| leg.group > 0)?;
-    let before: Vec<Placed> =
-        (0..).zip(&placement[..index]).filter(|(_, other)| other.group == leg.group).collect();
+    let leg = placement.get(usize::try_from(place).ok()?)?;
+    let other = earlier(placement, place, reason)?;
     let wrong = match reason {
-        Reason::UnderlyingsDiffer => differs(leg, &before, "underlying", |leg| leg.underlying.to_string()),
-        Reason::StylesDiffer => differs(leg, &before, "style", |leg| style_name(leg.style).to_string()),
-        Reason::MarketsDiffer => differs(leg, &before, "market", |leg| market_name(leg.market).to_string()),
-        Reason::SeriesLongAndShort => doubled(leg, &before),
-        Reason::ShortOutlivesLong => outlived(leg, &before),
-        _ => None,
-    }?;
+        Reason::UnderlyingsDiffer => differs(leg, other, "underlying", |leg| leg.underlying.to_string()),
+        Reason::StylesDiffer => differs(leg, other, "style", |leg| style_name(leg.style).to_string()),
+        Reason::MarketsDiffer => differs(leg, other, "market", |leg| market_name(leg.market).to_string()),
+        Reason::SeriesLongAndShort => doubled(leg, other),
+        _ => outlived(leg, other),
+    };
     Some(format!("{}: {wrong}", named((place, leg), OF_PLACEMENT)))
 }
 
-fn differs(leg: &Leg, before: &[Placed], what: &str, term: fn(&Leg) -> String) -> Option<String> {
-    let (at, other) = before.iter().find(|(_, other)| term(other) != term(leg))?;
-    let (own, first, group, since) = (term(leg), term(other), leg.group, ordinal(*at));
-    Some(format!("its {what} is {own}, that of group {group} is {first} since the {since} record"))
+/// The first leg before the one at this place, in its group, that it does not go with.
+pub fn earlier(placement: &[Leg], place: u64, reason: Reason) -> Option<Placed> {
+    let index = usize::try_from(place).ok()?;
+    let leg = placement.get(index).filter(|leg| leg.group > 0)?;
+    let before = (0..).zip(&placement[..index]).filter(|(_, other)| other.group == leg.group);
+    before.into_iter().find(|(_, other)| match reason {
+        Reason::UnderlyingsDiffer => other.underlying != leg.underlying,
+        Reason::StylesDiffer => other.style != leg.style,
+        Reason::MarketsDiffer => other.market != leg.market,
+        Reason::SeriesLongAndShort => other.side != leg.side && other.series() == leg.series(),
+        Reason::ShortOutlivesLong => other.side != leg.side && leg.expiry.cmp(&other.expiry) == past(leg).0,
+        _ => false,
+    })
 }
 
-fn doubled(leg: &Leg, before: &[Placed]) -> Option<String> {
-    let other = before.iter().find(|(_, other)| other.side != leg.side && other.series() == leg.series())?;
-    Some(format!(
+fn differs(leg: &Leg, (at, other): Placed, what: &str, term: fn(&Leg) -> String) -> String {
+    let (own, first, group, since) = (term(leg), term(other), leg.group, ordinal(at));
+    format!("its {what} is {own}, that of group {group} is {first} since the {since} record")
+}
+
+fn doubled(leg: &Leg, other: Placed) -> String {
+    format!(
         "it is {} {}, and group {} is {} that series since {}",
         side_name(leg.side),
         series_text(leg),
         leg.group,
         side_name(other.1.side),
-        named(*other, ""),
-    ))
+        named(other, ""),
+    )
 }
 
-fn outlived(leg: &Leg, before: &[Placed]) -> Option<String> {
-    let (past, word) = match leg.side {
+/// How a leg may not expire against one of the other side, and the word for it.
+fn past(leg: &Leg) -> (Ordering, &'static str) {
+    match leg.side {
         Side::Short => (Ordering::Greater, "after"),
         Side::Long => (Ordering::Less, "before"),
-    };
-    let is_past = |other: &Leg| leg.expiry.cmp(&other.expiry) == past;
-    let other = before.iter().find(|(_, other)| other.side != leg.side && is_past(other))?;
-    Some(format!(
-        "this {} expires on {}, {word} the {} of group {} that expires on {}, {}",
+    }
+}
+
+fn outlived(leg: &Leg, other: Placed) -> String {
+    format!(
+        "this {} expires on {}, {} the {} of group {} that expires on {}, {}",
         side_name(leg.side),
         date_text(leg.expiry),
+        past(leg).1,
         side_name(other.1.side),
         leg.group,
         date_text(other.1.expiry),
-        named(*other, ""),
-    ))
+        named(other, ""),
+    )
 }

@@ -15,18 +15,21 @@ mod salvage;
 mod short;
 mod size;
 mod symbols;
+mod unequal;
 
 use crate::reason::Reason;
 use crate::refusal::Refusal;
 use crate::sheet::Sheet;
 
 pub use binaries::{of_binary, of_pair};
-pub use boxes::of_margin;
+pub use boxes::{half_of, of_margin};
+pub use fields::record_texts;
 pub use fills::of_fills;
 pub use moves::of_move;
 pub use salvage::{of_dropped, of_left_out, of_salvage};
 pub(crate) use short::short;
 pub use symbols::{of_export, of_import, of_line};
+pub use unequal::{unequal, Unequal};
 
 /// The sentence of a refusal that the check of this file, or its reader, answered.
 ///
@@ -72,4 +75,10 @@ pub fn of_sheet(sheet: &Sheet, refusal: &Refusal) -> String {
         None => None,
     };
     sentence.unwrap_or_else(|| refusal.to_string())
+}
+
+/// The place of the earlier leg that the leg of a refusal does not go with (7, 8, 9, 10 and 13), in the placement.
+pub fn earlier_leg(sheet: &Sheet, refusal: &Refusal) -> Option<usize> {
+    let (at, _) = legs::earlier(&sheet.placement, refusal.place, refusal.reason()?)?;
+    usize::try_from(at).ok()
 }

@@ -59,22 +59,30 @@ fn misnumbered(sheet: &Sheet, place: usize) -> Option<String> {
     ))
 }
 
-/// Contracts of the leg's line and side, held and placed.
 fn contracts(sheet: &Sheet, leg: &Leg) -> String {
+    let side = side_name(leg.side);
+    let (held, placed) = held_and_placed(sheet, leg);
+    let (held, placed) = (count(held, "contract"), count(placed, "contract"));
+    format!("of this line the holdings have {held} {side} and the placement has {placed} {side}")
+}
+
+/// Contracts of the leg's line and side.
+pub fn held_and_placed(sheet: &Sheet, leg: &Leg) -> (u64, u64) {
     let sum = |legs: &[Leg]| -> u64 {
         let same = legs.iter().filter(|other| other.line() == leg.line() && other.side == leg.side);
         same.map(|other| u64::from(other.contracts)).sum()
     };
-    let side = side_name(leg.side);
-    let held = count(sum(&sheet.holdings), "contract");
-    let placed = count(sum(&sheet.placement), "contract");
-    format!("of this line the holdings have {held} {side} and the placement has {placed} {side}")
+    (sum(&sheet.holdings), sum(&sheet.placement))
 }
 
-/// Claimed and due.
+/// What is claimed for a group, and its margin.
+pub fn claimed_and_due(sheet: &Sheet, group: u64) -> Option<(i64, i64)> {
+    let claim = sheet.claims.iter().find(|claim| u64::from(claim.group) == group)?;
+    Some((claim.margin, sheet.margin(group).ok()?))
+}
+
 pub fn claim_sentence(sheet: &Sheet, group: u64) -> Option<String> {
-    let claimed = sheet.claims.iter().find(|claim| u64::from(claim.group) == group)?.margin;
-    let due = sheet.margin(group).ok()?;
+    let (claimed, due) = claimed_and_due(sheet, group)?;
     let due = of_margin(due, &sheet.worksheet(group).ok()?);
     Some(format!("group {group} claims {}; its margin is {due}", amount(claimed)))
 }

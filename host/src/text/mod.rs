@@ -15,8 +15,10 @@ pub use errors::{Errors, TextError, TextErrors};
 pub use escape::escaped;
 pub(crate) use escape::{escaped_bytes, line_of_bytes};
 pub use fills::{parse_fills, show_fills};
+#[doc(hidden)]
+pub use line::date_text;
 pub(crate) use line::{
-    date_text, fill_text, leg_text, market_name, placed_text, raw_text, series_text, side_name, style_name,
+    fill_text, leg_text, market_name, placed_text, raw_text, series_text, side_name, style_name,
 };
 pub(crate) use parse::is_section;
 pub use parse::parse;

@@ -58,7 +58,8 @@ impl Machine {
         machine.put("cc", "cat >/dev/null");
         machine.put("c++", "cat >/dev/null");
         machine.put("valgrind", "true");
-        for name in ["cargo", "rustc", "cc", "c++"] {
+        machine.put("chromium", "exit 0");
+        for name in ["cargo", "rustc", "cc", "c++", "chromium"] {
             fs::copy(machine.tool(name), machine.beside("packages").join(name)).expect("a package");
         }
         let install = format!(
@@ -249,6 +250,41 @@ fn the_last_line_counts_what_failed() {
     let machine = Machine::whole("second-command");
     put_script(&machine.beside("clone/sheet"), "echo ACCEPT 2 1");
     assert_eq!(ending(&machine.gate()), ("14 passed, 1 failed", 1, ""));
+}
+
+/// A browser is nothing that the gate needs: where there is none, the test that asks for it is left out, and that
+/// is said at the end.
+#[test]
+fn root_gets_a_browser_and_others_are_told_that_its_test_is_left_out() {
+    let left_out =
+        "run-tests: without a browser nobody looks at the pages: that test is left out\n6 passed, 0 failed\n";
+    let install = "apt-get install -y --no-install-recommends chromium";
+
+    let machine = Machine::without("browser", &["chromium"]);
+    let run = machine.run("host/run-tests", &[]);
+    assert!(
+        run.out.starts_with("run-tests: installing chromium\n") && !run.out.contains("left out"),
+        "{}",
+        run.out
+    );
+    assert_eq!((machine.asked(), run.status), (vec![String::from("apt-get update"), install.into()], 0));
+
+    let machine = Machine::without("no-browser", &["chromium"]);
+    machine.put("id", "echo 1000");
+    let run = machine.run("host/run-tests", &[]);
+    let named = format!("run-tests: there is no browser; as root, on Debian: apt-get update && {install}\n");
+    assert!(run.out.starts_with(&named) && run.out.ends_with(left_out), "{}", run.out);
+    assert_eq!((machine.asked().len(), run.status), (0, 0));
+
+    let machine = Machine::without("browser-fails", &["chromium"]);
+    machine.put("apt-get", "echo 'E: no network' >&2; exit 100");
+    let run = machine.run("host/run-tests", &[]);
+    let failed = "E: no network\nrun-tests: chromium was not installed (apt-get's words stand above)\n";
+    assert!(run.out.contains(failed) && run.out.ends_with(left_out), "{}", run.out);
+    let machine = Machine::without("browser-no-apt", &["chromium", "apt-get"]);
+    let run = machine.run("host/run-tests", &[]);
+    assert!(run.out.contains("no apt-get to install it with (Debian: chromium)"), "{}", run.out);
+    assert!(run.out.ends_with(left_out) && run.status == 0, "{}", run.out);
 }
 
 /// Without python3, as on the machines above, they are left out, and that is said.

@@ -61,8 +61,9 @@ impl Found {
     }
 }
 
+/// How many files were accepted, refused and not read.
 #[derive(Default)]
-struct Tally {
+pub struct Tally {
     accepted: usize,
     refused: usize,
     unread: usize,
@@ -97,7 +98,8 @@ pub fn check(names: &[OsString], json: bool, work: bool) -> Result<ExitCode, Str
     Ok(ExitCode::from(tally.status()))
 }
 
-fn judge(file: &mut Vec<u8>, name: &OsStr, before: &[OsString]) -> Found {
+/// The verdict on a file, whose bytes are in the buffer then.
+pub fn judge(file: &mut Vec<u8>, name: &OsStr, before: &[OsString]) -> Found {
     if name == "-" && before.iter().any(|earlier| earlier == "-") {
         return Found::Unread(String::from("-: standard input can be read only once"));
     }
@@ -126,7 +128,7 @@ fn worked_out(values: u64) -> String {
 }
 
 impl Tally {
-    fn count(&mut self, found: &Found) {
+    pub fn count(&mut self, found: &Found) {
         self.work += found.work().unwrap_or(0);
         match found {
             Found::Accepted(_) => self.accepted += 1,
@@ -136,7 +138,7 @@ impl Tally {
     }
 
     /// Files that could not be read are named where there are some.
-    fn summary(&self) -> String {
+    pub fn summary(&self) -> String {
         let unread = match self.unread {
             0 => String::new(),
             unread => format!(", {} not read", grouped(unread)),
@@ -144,7 +146,7 @@ impl Tally {
         format!("{} accepted, {} refused{unread}", grouped(self.accepted), grouped(self.refused))
     }
 
-    fn status(&self) -> u8 {
+    pub fn status(&self) -> u8 {
         match (self.unread, self.refused) {
             (0, 0) => 0,
             (0, _) => 1,

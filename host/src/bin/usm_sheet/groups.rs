@@ -48,7 +48,7 @@ fn amounts(name: &OsStr, of: fn(&Sheet, u64) -> Result<i64, Refusal>) -> Result<
 }
 
 /// The groups of the placement and of the claims, ascending.
-fn groups(sheet: &Sheet) -> BTreeSet<u64> {
+pub fn groups(sheet: &Sheet) -> BTreeSet<u64> {
     let placed = sheet.placement.iter().map(|leg| leg.group).filter(|group| *group > 0);
     placed.chain(sheet.claims.iter().map(|claim| claim.group)).map(u64::from).collect()
 }

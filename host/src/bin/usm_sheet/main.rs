@@ -14,6 +14,7 @@ mod json;
 mod make;
 mod moves;
 mod output;
+mod page;
 mod paid;
 mod play;
 mod plot;
@@ -38,6 +39,8 @@ usage:
   sheet margins FILE              print the margin of each group
   sheet cash FILE                 print the cash that each group requires in a cash account
   sheet worksheet FILE G          print the net of group G at each of its strikes
+  sheet page FILE.. OUT           make the HTML page OUT of sheet files: verdicts, margins and
+                                  drawings, and of a refused sheet where it is wrong [--force]
   sheet join FILE G K OUT         put groups G and K of an accepted sheet file into one, restate
                                   the claims, and tell the total before and after: joining never
                                   costs more, unless it makes a European long box [--force]
@@ -69,7 +72,7 @@ usage:
 options. An OUT that is there already is left alone unless --force is given. `check` prints
 the line of each file on standard output, behind its name if there are several, and
 sentences for people on standard error; with --json it prints one object a file instead. The
-exit status is 0 if all is well; 1 if `check` or `join` refuses a file, `play` a fill,
+exit status is 0 if all is well; 1 if `check`, `page` or `join` refuses a file, `play` a fill,
 `import` a list or `export` holdings, `salvage` drops a block, a group of `margins`,
 `worksheet` or `join` is no spread, or one of `cash` not fit for it, or the numbers of
 `binary` or `pair` are refused; 2 if something could not be done.
@@ -104,6 +107,7 @@ fn run(words: Vec<OsString>) -> Result<ExitCode, String> {
         ("margins", [file], false, false) => groups::margins(file),
         ("cash", [file], false, false) => groups::cash(file),
         ("worksheet", [file, group], false, false) => groups::worksheet(file, group),
+        ("page", [files @ .., out], force, false) if !files.is_empty() => page::page(files, out, force),
         ("join", [file, g, k, out], force, false) => join::join(file, [g, k], out, force),
         ("to-new", [file, account, out], force, false) => moves::to_new(file, account, out, force),
         ("to-old", [file, out], force, false) => moves::to_old(file, out, force),

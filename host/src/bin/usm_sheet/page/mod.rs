@@ -1,0 +1,67 @@
+//! `sheet page`: a page of one or more sheets that a customer can look at, whole in one file.
+
+mod blocks;
+mod change;
+mod contents;
+mod drawing;
+mod frame;
+mod group;
+mod html;
+mod legs;
+mod marks;
+mod refused;
+mod scale;
+mod sheets;
+mod table;
+
+use std::ffi::{OsStr, OsString};
+use std::path::Path;
+use std::process::ExitCode;
+
+use usm::program::{self, shown};
+use usm::LONGEST_FILE;
+
+use crate::check::{judge, Found, Tally};
+use crate::make::{same_file, write};
+use sheets::Told;
+
+/// Makes the page of these files. What could not be read is told on the page, too.
+pub fn page(names: &[OsString], out_name: &OsStr, force: bool) -> Result<ExitCode, String> {
+    check_name(names, out_name)?;
+    let mut tally = Tally::default();
+    let mut file = Vec::with_capacity(LONGEST_FILE + 1);
+    let mut sheets = Vec::with_capacity(names.len());
+    for (row, name) in names.iter().enumerate() {
+        let found = judge(&mut file, name, &names[..row]);
+        tally.count(&found);
+        sheets.push(Told::of(row + 1, name, &file, found));
+    }
+    let unread: Vec<String> = sheets.iter().filter_map(|told| unread(&told.found)).collect();
+    write(out_name, frame::page(sheets, &tally).as_bytes(), force)?;
+    for message in unread {
+        program::tell(&format!("sheet: {message}"));
+    }
+    if tally.status() != 0 {
+        program::tell(&format!("{}: {}", shown(out_name), tally.summary()));
+    }
+    Ok(ExitCode::from(tally.status()))
+}
+
+fn unread(found: &Found) -> Option<String> {
+    match found {
+        Found::Unread(message) => Some(message.clone()),
+        _ => None,
+    }
+}
+
+/// The page is the last name. Where it was forgotten, the last sheet file is not written over.
+fn check_name(names: &[OsString], out_name: &OsStr) -> Result<(), String> {
+    let is_sheet = Path::new(out_name).extension().map_or(false, |ending| ending == "usm");
+    if is_sheet || names.iter().any(|name| same_file(name, out_name)) {
+        return Err(format!(
+            "{}: is the name of a sheet; behind the sheets comes the name of the page, as page.html",
+            shown(out_name)
+        ));
+    }
+    Ok(())
+}
