@@ -1,26 +1,28 @@
 -- A fill's action and the record that it is otherwise, as code takes them.
-use Prim.Native.Nat.{ℕ, _+_, _*_, _≤_, _<_}
-use mathlib.Core.Path.{_≡_, sym, ap, _∙_}
+use Prim.Native.Nat.{ℕ, zero, suc, _+_, _-_, _*_, _/_, _≤_, _<_}
+use mathlib.Core.Path.{_≡_, refl, sym, ap, _∙_}
 use mathlib.Core.Bool.{Bool, true, false, cond, not, _&&_, and-false, and-eq-true-iff, false≢true}
 use mathlib.Core.List.{List}
 use native.Mathlib.Decide.{decLe, ℕ-discrete}
 use native.Mathlib.Omega.{arith}
-use lib.ListN.{length, getD, set, drop}
+use lib.ListN.{length, getD, set, drop, length-set}
 use lib.Dec.{eqb}
-use lib.Seq.{getD-drop, getD-take}
-use borrow.Author.Tests.{eqb-true, eq-eqb, lt-leb}
+use lib.Seq.{getD-drop, getD-take, getD-set-other}
+use borrow.Author.Tests.{eqb-true, eq-eqb, lt-leb, lt-ltb, le-ltb}
 use Rattle.records.specs.Bytes.{leAt}
 use Rattle.records.specs.Chunks.{chunkAt}
-use Rattle.records.specs.Legs.{legOf, isPaid, inRange, goodLeg}
+use Rattle.records.specs.Legs.{legFields, legOf, isPaid, inRange, goodLeg}
 use Rattle.records.specs.Tables.{goodRecord}
 use Rattle.records.specs.Within.{within}
 use Rattle.records.specs.Written.{putAt}
 use Rattle.records.specs.declared.legs.Leg.{Leg}
 use Rattle.records.specs.declared.tables.Kind.the-variants.{Holdings}
+use Rattle.records.proofs.ChunkLaws.{record-size}
 use Rattle.records.proofs.TableLaws.{ranges}
 use Rattle.records.proofs.PutLaws.{put-one}
 use Rattle.fills.specs.Fills.{actionAt, actionOf, plainOf, fillLeg, goodPlain, goodFill}
-use Rattle.fills.specs.Rows.{heldOf, opened, closed}
+use Rattle.fills.specs.Rows.{unmarked, heldOf, opened, closed}
+use Rattle.fills.specs.Links.{legIn}
 use Rattle.fills.specs.Played.{openNumber, closeNumber, fillNumber, numberOver, rowsAfter}
 use Rattle.fills.proofs.PartLaws.{put-whole}
 
@@ -67,6 +69,55 @@ plain-unpaid xs e =
           | yes q ↦ q
           | no q ↦ absurd (p (omega arith))
         ]
+
+-- ---- the records of both tables
+
+plain-byte : (xs : List ℕ) (p : ℕ) → p < actionAt → actionAt < length xs → getD (plainOf xs) p 0 ≡ getD xs p 0
+unfolding plainOf
+plain-byte xs p h r =
+    ap (λ (l : List ℕ). getD l p 0) (sym (put-one xs actionAt 0 r)) ∙ getD-set-other xs actionAt p 0 0 (λ e. omega arith)
+
+plain-number : (xs : List ℕ) (at w : ℕ) → at + w ≤ actionAt → actionAt < length xs → leAt (plainOf xs) at w ≡ leAt xs at w
+unfolding leAt
+plain-number xs at zero h r = refl
+plain-number xs at (suc w) h r = rw (plain-byte xs at (omega arith) r, plain-number xs (at + 1) w (omega arith) r)
+
+plain-fields : (xs : List ℕ) → actionAt < length xs → legFields (plainOf xs) ≡ legFields xs
+unfolding legFields
+plain-fields xs r =
+    rw (
+      plain-number xs 0 2 (omega arith) r,
+      plain-number xs 2 1 (omega arith) r,
+      plain-number xs 3 1 (omega arith) r,
+      plain-number xs 4 1 (omega arith) r,
+      plain-number xs 5 1 (omega arith) r,
+      plain-number xs 6 2 (omega arith) r,
+      plain-number xs 8 4 (omega arith) r,
+      plain-number xs 12 4 (omega arith) r,
+      plain-number xs 16 4 (omega arith) r,
+      plain-number xs 20 4 (omega arith) r,
+      plain-number xs 24 1 (omega arith) r,
+      plain-number xs 25 1 (omega arith) r,
+    )
+
+plain-size : (xs : List ℕ) → actionAt < length xs → length (plainOf xs) ≡ length xs
+unfolding plainOf
+plain-size xs r = ap length (sym (put-one xs actionAt 0 r)) ∙ simp length-set
+
+-- a fill's leg is read with its action in place
+plain-leg : (xs : List ℕ) → length xs ≡ 32 → legOf xs ≡ fillLeg xs
+unfolding legOf
+plain-leg xs e = rw (plain-size xs (omega arith), e) (sym (plain-fields xs (omega arith)))
+
+pub leg-start : (h f : List ℕ) (i : ℕ) → i < length h / 32 → legIn h f i ≡ unmarked (chunkAt 32 h i)
+unfolding legIn
+leg-start h f i a = rw (lt-ltb i (length h / 32) a)
+
+pub leg-fill : (h f : List ℕ) (i : ℕ) → i < length f / 32 → legIn h f (length h / 32 + i) ≡ fillLeg (chunkAt 32 f i)
+unfolding legIn
+leg-fill h f i a =
+    let q : length h / 32 + i - length h / 32 ≡ i = omega arith in
+    rw (le-ltb (length h / 32 + i) (length h / 32) (omega arith), q) (plain-leg (chunkAt 32 f i) (record-size f i a))
 
 -- ---- a fill by its action
 

@@ -30,7 +30,7 @@ use Rattle.fills.specs.Demands.{Untouched, UntouchedStays, StartingStays
 use Rattle.fills.proofs.PartLaws.{all-mid}
 use Rattle.fills.proofs.ResultLaws.{Passed, passed, opened-new, merged-apart, left-records}
 use Rattle.fills.proofs.RowLaws.{all-opened}
-use Rattle.fills.proofs.StandLaws.{records-back}
+use Rattle.fills.proofs.BytesLaws.{records-back}
 use Rattle.fills.proofs.UnpaidLaws.{unpaid, starting-is, unpaid-same}
 
 -- l stands among these

@@ -8,7 +8,6 @@ use native.Mathlib.Omega.{arith}
 use lib.Dec.{eqb, leb}
 use lib.ListN.{length}
 use borrow.Author.Tests.{le-leb, lt-leb}
-use Rattle.records.specs.Chunks.{chunkAt}
 use Rattle.records.specs.Legs.{mostContracts, contractsFrom, withContracts}
 use Rattle.records.specs.Lines.{sameLineSide, contractsOf}
 use Rattle.records.specs.Lists.{only, sumOf}
@@ -23,10 +22,12 @@ use Rattle.records.proofs.LineLaws.{line-sym, line-swap, line-with}
 use Rattle.fills.specs.Calls.{askPast}
 use Rattle.fills.specs.Played.{openNumber}
 use Rattle.fills.specs.Rows.{heldOf, more, opened, mergedInto, merged, unmarked, startingLegs}
-use Rattle.fills.specs.Steps.{rowsIn, Stand, Posted, mergedAnswer, mergedOf}
+use Rattle.fills.specs.Links.{legIn}
+use Rattle.fills.specs.Steps.{rowsTo, Blank, Stand, Opening, mergedAnswer, mergedOf}
 use Rattle.fills.specs.declared.merge.Merged.the-variants.{Rows, Refused}
 use Rattle.fills.specs.declared.steps.Posting.{Posting}
-use Rattle.fills.proofs.StandLaws.{stand-none, stand-rows}
+use Rattle.fills.proofs.FillLaws.{leg-start}
+use Rattle.fills.proofs.StandLaws.{stand-none}
 
 -- ---- what is held after an opening
 
@@ -100,20 +101,20 @@ pub starting-all : (xs : List ℕ) → rowsFrom unmarked xs 0 ≡ startingLegs x
 unfolding startingLegs
 starting-all xs = rows-all unmarked xs
 
-pub record Merging (xs rows : List ℕ) (n i : ℕ) : Type 0 where
+pub record Merging (xs fills held links : List ℕ) (n i : ℕ) : Type 0 where
   pub before : List Leg
   pub whole : before ++ rowsFrom unmarked xs i ≡ startingLegs xs
-  pub stand : Stand rows n (merged before)
+  pub stand : Stand (legIn xs fills) i held links n (merged before)
   pub few : n ≤ i
   pub asked : firstOf (askPast [] 0 (startingLegs xs)) ≡ firstOf (askPast before i (rowsFrom unmarked xs i))
 
-pub merging-none : (xs rows : List ℕ) → 8192 ≤ length rows → Merging xs rows 0 0
+pub merging-none : (xs fills held links : List ℕ) → 1280 ≤ length held → 2301 ≤ length links → Blank held → Blank links → Merging xs fills held links 0 0
 unfolding mergedInto
-merging-none xs rows h =
+merging-none xs fills held links a b none free =
     record {
       before = [];
       whole = starting-all xs;
-      stand = stand-none rows h;
+      stand = stand-none (legIn xs fills) held links a b none free;
       few = omega arith;
       asked = rw (starting-all xs);
     }
@@ -154,21 +155,26 @@ number-past held lines n h e =
       | no k ↦ omega arith
     ]
 
-module _ {xs rows : List ℕ} {n i : ℕ} (m : Merging xs rows n i) (x : Leg) (h : i < length xs / 32) (k : i < mostLegs) (e : x ≡ unmarked (chunkAt 32 xs i))
-    (bytes : List ℕ) (r : Posting)
-    (p : Posted (openNumber (heldOf x (rowsIn rows n)) n (x .contracts .0)) (opened x (rowsIn rows n)) (rowsIn rows n) bytes r) where
+module _ {xs fills held links : List ℕ} {n i : ℕ} (m : Merging xs fills held links n i) (h : i < length xs / 32) (k : i < mostLegs)
+    (held′ links′ : List ℕ) (r : Posting) (p : Opening (legIn xs fills) i held n held′ links′ r) where
+  abbrev x : Leg
+  x = legIn xs fills i
+
+  abbrev rows : List Leg
+  rows = rowsTo (legIn xs fills) held i
+
   next : rowsFrom unmarked xs i ≡ x ∷ rowsFrom unmarked xs (i + 1)
-  next = rows-next unmarked xs i x h e
+  next = rows-next unmarked xs i x h (leg-start xs fills i h)
 
-  now-held : heldOf x (rowsIn rows n) ≡ contractsOf x (m .before)
-  now-held = ap (heldOf x) (stand-rows (m .stand)) ∙ held-merged x (m .before)
+  now-held : heldOf x rows ≡ contractsOf x (m .before)
+  now-held = ap (heldOf x) (m .stand .are) ∙ held-merged x (m .before)
 
-  pub merging-more : r .number ≡ 0 → Merging xs bytes (r .rows) (i + 1)
+  pub merging-more : r .number ≡ 0 → Merging xs fills held′ links′ (r .rows) (i + 1)
   merging-more z =
-      let o : openNumber (heldOf x (rowsIn rows n)) n (x .contracts .0) ≡ 0 = sym (p .number) ∙ z in
-      let f : heldOf x (rowsIn rows n) + x .contracts .0 ≤ mostContracts = number-fits _ n _ (omega (arith, m .few)) o in
-      let q : opened x (rowsIn rows n) ≡ merged (m .before ++ x ∷ []) = ap (opened x) (stand-rows (m .stand)) ∙ sym (merged-snoc (m .before) x) in
-      let s : Stand bytes (r .rows) (merged (m .before ++ x ∷ [])) = rw (← q) (rw o at (p .stand)) in
+      let o : openNumber (heldOf x rows) n (x .contracts .0) ≡ 0 = sym (p .number) ∙ z in
+      let f : heldOf x rows + x .contracts .0 ≤ mostContracts = number-fits _ n _ (omega (arith, m .few)) o in
+      let q : opened x rows ≡ merged (m .before ++ x ∷ []) = ap (opened x) (m .stand .are) ∙ sym (merged-snoc (m .before) x) in
+      let s : Stand (legIn xs fills) (i + 1) held′ links′ (r .rows) (merged (m .before ++ x ∷ [])) = rw (← q) (rw o at (p .stand)) in
       record {
         before = m .before ++ x ∷ [];
         whole = append-assoc (m .before) (x ∷ []) (rowsFrom unmarked xs (i + 1)) ∙ ap (λ (l : List Leg). m .before ++ l) (sym next) ∙ m .whole;
@@ -180,17 +186,17 @@ module _ {xs rows : List ℕ} {n i : ℕ} (m : Merging xs rows n i) (x : Leg) (h
   pub merging-stop : (r .number ≡ 0 → ⊥) → Refused (refuse 19 1 i) ≡ mergedOf (startingLegs xs)
   unfolding mergedOf
   merging-stop z =
-      let f : mostContracts < heldOf x (rowsIn rows n) + x .contracts .0 = number-past _ n _ (omega (arith, m .few)) (λ o. z (p .number ∙ o)) in
+      let f : mostContracts < heldOf x rows + x .contracts .0 = number-past _ n _ (omega (arith, m .few)) (λ o. z (p .number ∙ o)) in
       rw (m .asked ∙ past-bad (m .before) (rowsFrom unmarked xs (i + 1)) (rowsFrom unmarked xs i) i x next (omega (arith, now-held)))
 
-module _ {xs rows : List ℕ} {n i : ℕ} (m : Merging xs rows n i) (h : length xs / 32 ≤ i) where
+module _ {xs fills held links : List ℕ} {n i : ℕ} (m : Merging xs fills held links n i) (h : length xs / 32 ≤ i) where
   none : rowsFrom unmarked xs i ≡ []
   none = rows-none unmarked xs i h
 
   all : m .before ≡ startingLegs xs
   all = sym (append-nil (m .before)) ∙ ap (λ (l : List Leg). m .before ++ l) (sym none) ∙ m .whole
 
-  pub merging-stand : Stand rows n (merged (startingLegs xs))
+  pub merging-stand : Stand (legIn xs fills) i held links n (merged (startingLegs xs))
   merging-stand = rw (← all) (m .stand)
 
   pub merging-over : Rows n ≡ mergedOf (startingLegs xs)

@@ -1,34 +1,40 @@
 -- A posting that is done, or refused with its number.
-use Prim.Native.Nat.{ℕ, suc, _+_, _-_, _*_, _≤_, _<_, min}
-use mathlib.Core.Path.{_≡_, refl, sym, _∙_}
-use mathlib.Core.Bool.{true, false}
-use mathlib.Core.List.{List, [], _∷_, _++_, append-nil}
+use Prim.Native.Nat.{ℕ, suc, _+_, _-_, _≤_, _<_, min}
+use mathlib.Core.Path.{_≡_, refl, sym, ap, _∙_}
+use mathlib.Core.Bool.{Bool, true, false, not, false≢true, and-eq-true-iff}
+use mathlib.Core.List.{List}
+use native.Mathlib.Decide.{decLe}
 use native.Mathlib.Omega.{arith}
 use lib.Dec.{eqb}
-use lib.ListN.{getD, take, drop}
+use lib.ListN.{length, getD, set}
 use borrow.Author.Tests.{le-leb, lt-leb, eq-eqb, ne-eqb}
-use Rattle.records.specs.Legs.{mostContracts, inRange, withContracts, plusContracts, legBytes}
+use Rattle.records.specs.Legs.{mostContracts, inRange, contractsFrom, plusContracts}
+use Rattle.records.specs.Lines.{sameLineSide}
 use Rattle.records.specs.Tables.{mostLegs}
-use Rattle.records.specs.Written.{putAt}
 use Rattle.records.specs.declared.counts.Contracts.{Contracts}
 use Rattle.records.specs.declared.legs.Leg.{Leg}
-use Rattle.records.proofs.LegLaws.{contracts-range}
+use Rattle.records.proofs.LineLaws.{swap-line}
 use Rattle.records.proofs.TableLaws.{ranges}
-use Rattle.fills.specs.Rows.{heldOf, more, fewer, opened, closed}
+use Rattle.fills.specs.Rows.{heldOf}
 use Rattle.fills.specs.Played.{openNumber, closeNumber}
-use Rattle.fills.specs.Steps.{placeOf, Stand, Posted}
+use Rattle.fills.specs.Links.{bucketOf, isRow, Ended}
+use Rattle.fills.specs.Steps.{rowsTo, Live, Stand, Posted, Opening, Closing}
 use Rattle.fills.specs.declared.steps.Posting.{Posting}
-use Rattle.fills.proofs.PlaceLaws.{blankLeg, Found, found, Missing, missing}
-use Rattle.fills.proofs.StandLaws.{stand-good, stand-put, stand-add, stand-drop}
+use Rattle.fills.proofs.HeldLaws.{rows-others, lot-held, lot-opened, lot-closed}
+use Rattle.fills.proofs.LinkLaws.{same-bucket}
+use Rattle.fills.proofs.PlaceLaws.{held-none, opened-none}
+use Rattle.fills.proofs.RowLaws.{rows-some}
+use Rattle.fills.proofs.StandLaws.{stand-skip, stand-changed, stand-gone, stand-new, live-before}
 
 abbrev pub posting : ℕ → ℕ → Posting
 posting n number = record { rows = n; number = number }
 
-module _ {refused : ℕ} {after before : List Leg} {bytes : List ℕ} {n : ℕ} where
-  pub posted-done : refused ≡ 0 → Stand bytes n after → Posted refused after before bytes (posting n 0)
+module _ {leg : ℕ → Leg} {k refused : ℕ} {after before : List Leg} {held links : List ℕ} {n : ℕ} where
+  pub posted-done : refused ≡ 0 → Stand leg (k + 1) held links n after → Posted leg k refused after before held links (posting n 0)
   posted-done e s = record { number = sym e; stand = rw e s }
 
-  pub posted-not : (number : ℕ) → refused ≡ number → eqb number 0 ≡ false → Stand bytes n before → Posted refused after before bytes (posting n number)
+  pub posted-not : (number : ℕ) → refused ≡ number → eqb number 0 ≡ false → Stand leg (k + 1) held links n before
+      → Posted leg k refused after before held links (posting n number)
   posted-not number e z s = record { number = sym e; stand = rw (e, z) s }
 
 -- ---- the numbers
@@ -51,87 +57,110 @@ close-done held n h = rw (le-leb n held h)
 pub close-past : (held n : ℕ) → held < n → closeNumber held n ≡ 18
 close-past held n h = rw (lt-leb n held h)
 
--- ---- one leg x over rows that stand
+false-where : (b : Bool) → (b ≡ true → ⊥) → b ≡ false
+false-where true f = absurd (f refl)
+false-where false f = refl
 
-module _ {b : List ℕ} {n : ℕ} {rows : List Leg} (s : Stand b n rows) (x : Leg) (g : inRange 0 x ≡ true) (p : ℕ) (at : p ≡ placeOf x rows) where
-  abbrev row : Leg
-  row = getD rows p blankLeg
+at-least-one : (a : ℕ) → (a ≡ 0 → ⊥) → 1 ≤ a
+at-least-one a n =
+    elim (decLe 1 a) [
+      | yes h ↦ h
+      | no h ↦ absurd (n (omega arith))
+    ]
 
-  abbrev Opening : List ℕ → Posting → Type 0
-  Opening bytes r = Posted (openNumber (heldOf x rows) n (x .contracts .0)) (opened x rows) rows bytes r
+-- ---- record k over rows that stand, the search for its line and side having ended at link `at`
 
-  abbrev Closing : List ℕ → Posting → Type 0
-  Closing bytes r = Posted (closeNumber (heldOf x rows) (x .contracts .0)) (closed x rows) rows bytes r
+module _ {leg : ℕ → Leg} {k : ℕ} {held links : List ℕ} {n : ℕ} (s : Stand leg k held links n (rowsTo leg held k)) (small : k < 1280)
+    (g : inRange 0 (leg k) ≡ true) (at : ℕ) (ended : Ended (isRow leg held (leg k)) links (bucketOf (leg k)) at) where
+  abbrev size : ℕ
+  size = leg k .contracts .0
 
-  module _ (h : p < n) where
-    there : Found x rows p
-    there = found x rows p at (omega (arith, s .count))
+  size-fits : (1 ≤ size) × (size ≤ mostContracts)
+  size-fits = ranges 0 (leg k) g .contracts
 
-    -- at least one contract
-    some : 1 ≤ row .contracts .0
-    some = ranges 0 row (stand-good s p h) .contracts .0
+  -- at a row
+  module _ (j : ℕ) (t : getD links at 0 ≡ suc j) where
+    abbrev lot : ℕ
+    lot = getD held j 0
 
-    few : row .contracts .0 ≤ mostContracts
-    few = ranges 0 row (stand-good s p h) .contracts .1
+    row-is : (not (eqb lot 0) ≡ true) × (sameLineSide (leg k) (leg j) ≡ true)
+    row-is = and-eq-true-iff (not (eqb lot 0)) (sameLineSide (leg k) (leg j)) .0 (ended .found j t)
 
-    held : heldOf x rows ≡ row .contracts .0
-    held = there .held
+    live : Live held j
+    live e = false≢true (sym (ap not (eq-eqb lot 0 e)) ∙ row-is .0)
 
-    pub add-done : row .contracts .0 + x .contracts .0 ≤ mostContracts → Opening (putAt b (32 * p) (legBytes (more row x))) (posting n 0)
-    add-done k =
-        posted-done (rw held (open-done (row .contracts .0) n (x .contracts .0) some k))
-        (rw (there .opens) (stand-put s p (more row x) h (contracts-range 0 (row .contracts .0 + x .contracts .0) row (stand-good s p h) (omega (arith, some)) k)))
+    some : 1 ≤ lot
+    some = at-least-one lot live
 
-    pub add-past : mostContracts < row .contracts .0 + x .contracts .0 → Opening b (posting n 19)
-    add-past k = posted-not 19 (rw held (open-past (row .contracts .0) n (x .contracts .0) some k)) refl s
+    pub there : j < k
+    there = live-before s j live
 
-    pub take-some : x .contracts .0 < row .contracts .0 → Closing (putAt b (32 * p) (legBytes (fewer row x))) (posting n 0)
-    take-some k =
-        let z : eqb (row .contracts .0) (x .contracts .0) ≡ false = ne-eqb (row .contracts .0) (x .contracts .0) (λ e. omega arith) in
-        let f : closed x rows ≡ take p rows ++ (fewer row x ∷ []) ++ drop (suc p) rows = there .closes ∙ rw z in
-        posted-done (rw held (close-done (row .contracts .0) (x .contracts .0) (omega arith)))
-        (rw f (stand-put s p (fewer row x) h (contracts-range 0 (row .contracts .0 - x .contracts .0) row (stand-good s p h) (omega arith) (omega (arith, few)))))
+    room : j < length held
+    room = omega (arith, there, s .held-room)
 
-    pub take-all : x .contracts .0 ≡ row .contracts .0
-        → Closing (putAt b (32 * p) (take (32 * n - (32 * p + 32)) (drop (32 * p + 32) b))) (posting (n - 1) 0)
-    take-all k =
-        let z : eqb (row .contracts .0) (x .contracts .0) ≡ true = eq-eqb _ _ (sym k) in
-        let f : closed x rows ≡ take p rows ++ drop (suc p) rows = there .closes ∙ rw (z, append-nil) in
-        posted-done (rw held (close-done (row .contracts .0) (x .contracts .0) (omega arith))) (rw f (stand-drop s p h))
+    others : (i : ℕ) → (i ≡ j → ⊥) → Live held i → sameLineSide (leg k) (leg i) ≡ false
+    others i m l = false-where _ (λ a. m (s .apart i j l live (sym (swap-line (leg k) (leg i) (leg j) a) ∙ row-is .1)))
 
-    pub take-past : row .contracts .0 < x .contracts .0 → Closing b (posting n 18)
-    take-past k = posted-not 18 (rw held (close-past (row .contracts .0) (x .contracts .0) k)) refl s
+    held-is : heldOf (leg k) (rowsTo leg held k) ≡ lot
+    held-is = lot-held leg held k j there room live (leg k) (row-is .1) others
 
-  module _ (h : n ≤ p) where
-    gone : Missing x rows
-    gone = missing x rows (omega (arith, s .count))
+    pub rows-held : 1 ≤ n
+    rows-held = omega (arith, rows-some (leg k) (rowsTo leg held k) (omega (arith, held-is, some)), s .count)
 
-    pub new-done : n < mostLegs → Opening (putAt b (32 * n) (legBytes x)) (posting (n + 1) 0)
-    new-done k =
-        posted-done (open-new (heldOf x rows) n (x .contracts .0) (gone .held) k (ranges 0 x g .contracts .1)) (rw (gone .opens) (stand-add s x k g))
+    pub add-done : (v : ℕ) → v ≡ lot + size → v ≤ mostContracts → Opening leg k held n (set held j v) links (posting n 0)
+    add-done v e m =
+        posted-done (rw held-is (open-done lot n size some (omega arith)))
+        (rw (lot-opened leg held k j there room live (leg k) (row-is .1) others v e)
+        (stand-skip (stand-changed s small j live v (λ z. live (omega arith)))))
 
-    pub new-full : mostLegs ≤ n → Opening b (posting n 19)
-    new-full k = posted-not 19 (open-full (heldOf x rows) n (x .contracts .0) (gone .held) k) refl s
+    pub add-past : mostContracts < lot + size → Opening leg k held n held links (posting n 19)
+    add-past m = posted-not 19 (rw held-is (open-past lot n size some m)) refl (stand-skip s)
 
-    pub take-none : Closing b (posting n 18)
-    take-none = posted-not 18 (close-past (heldOf x rows) (x .contracts .0) (omega (arith, gone .held, ranges 0 x g .contracts .0))) refl s
+    pub take-some : (v : ℕ) → v ≡ lot - size → size < lot → Closing leg k held (set held j v) links (posting n 0)
+    take-some v e m =
+        posted-done (rw held-is (close-done lot size (omega arith)))
+        (rw (lot-closed leg held k j there room live (leg k) (row-is .1) others v e (omega arith))
+        (stand-skip (stand-changed s small j live v (λ z. omega arith))))
 
--- ---- contracts as code adds them and takes them away
+    pub take-all : size ≡ lot → Closing leg k held (set held j 0) (set links at (getD links (1021 + j) 0)) (posting (n - 1) 0)
+    take-all m =
+        posted-done (rw held-is (close-done lot size (omega arith)))
+        (rw (lot-closed leg held k j there room live (leg k) (row-is .1) others 0 (omega arith) (omega arith))
+        (stand-skip (stand-gone s small j live at t)))
 
-plus-is : (y x : Leg) → min (y .contracts .0 + x .contracts .0) 4294967295 ≤ mostContracts → withContracts y (plusContracts (y .contracts) (x .contracts)) ≡ more y x
-plus-is y x h =
-    let q : min (y .contracts .0 + x .contracts .0) 4294967295 ≡ y .contracts .0 + x .contracts .0 = omega arith in
-    rw q
+    pub take-past : lot < size → Closing leg k held held links (posting n 18)
+    take-past m = posted-not 18 (rw held-is (close-past lot size m)) refl (stand-skip s)
 
-module _ (y r x : Leg) (k : Contracts) (n : ℕ) (er : r ≡ y) (ek : k ≡ plusContracts (r .contracts) (x .contracts)) (en : n ≡ k .0) where
-  sum-is : n ≡ min (y .contracts .0 + x .contracts .0) 4294967295
-  sum-is = rw (en, ek, er)
+  -- at the free link: there is no row
+  module _ (free : getD links at 0 ≡ 0) where
+    missing : (i : ℕ) → Live held i → sameLineSide (leg k) (leg i) ≡ false
+    missing i l =
+        false-where _
+        (λ a. ended .none free i (rw (same-bucket (leg k) (leg i) a) (s .linked i l)) (rw (ne-eqb (getD held i 0) 0 l, a)))
 
-  pub sum-fits : n ≤ mostContracts → y .contracts .0 + x .contracts .0 ≤ mostContracts
+    held-not : heldOf (leg k) (rowsTo leg held k) ≡ 0
+    held-not = held-none (leg k) (rowsTo leg held k) (rows-others leg (leg k) held k (λ i h l. missing i l))
+
+    pub new-done : n < mostLegs → (v w : ℕ) → v ≡ size → w ≡ suc k → Opening leg k held n (set held k v) (set links at w) (posting (n + 1) 0)
+    new-done h v w e f =
+        posted-done (open-new _ n size held-not h (size-fits .1))
+        (rw (opened-none (leg k) (rowsTo leg held k) (rows-others leg (leg k) held k (λ i h l. missing i l)), f)
+        (stand-new s small at (ended .path) free missing v e (λ z. omega (arith, size-fits .0)) h))
+
+    pub new-full : mostLegs ≤ n → Opening leg k held n held links (posting n 19)
+    new-full h = posted-not 19 (open-full _ n size held-not h) refl (stand-skip s)
+
+    pub take-none : Closing leg k held held links (posting n 18)
+    take-none = posted-not 18 (close-past _ size (omega (arith, held-not, size-fits .0))) refl (stand-skip s)
+
+-- ---- contracts as code adds them
+
+module _ (a : ℕ) (x : Leg) (made sum : Contracts) (m : ℕ) (em : made ≡ contractsFrom a) (es : sum ≡ plusContracts made (x .contracts)) (en : m ≡ sum .0) where
+  sum-is : m ≡ min (a + x .contracts .0) 4294967295
+  sum-is = rw (en, es, em)
+
+  pub sum-fits : m ≤ mostContracts → m ≡ a + x .contracts .0
   sum-fits h = omega (arith, sum-is)
 
-  pub sum-past : mostContracts < n → mostContracts < y .contracts .0 + x .contracts .0
+  pub sum-past : mostContracts < m → mostContracts < a + x .contracts .0
   sum-past h = omega (arith, sum-is)
-
-  pub sum-row : (w : Leg) → w ≡ withContracts r k → n ≤ mostContracts → w ≡ more y x
-  sum-row w ew h = rw (ew, ek, er) (plus-is y x (omega (arith, sum-is)))

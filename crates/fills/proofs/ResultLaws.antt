@@ -43,7 +43,7 @@ use Rattle.fills.proofs.MergeLaws.{held-merged, merged-snoc, length-ope
 use Rattle.fills.proofs.PartLaws.{all-mid}
 use Rattle.fills.proofs.PlayLaws.{Tabled, tables-clear}
 use Rattle.fills.proofs.RowLaws.{all-opened, all-closed, left-some, length-opened-is}
-use Rattle.fills.proofs.StandLaws.{length-bytes, records-back, legs-back}
+use Rattle.fills.proofs.BytesLaws.{length-bytes, records-back, legs-back}
 use Rattle.fills.proofs.UnpaidLaws.{unpaid, starting-is, unpaid-same, start-same}
 
 -- rows that make a table of holdings

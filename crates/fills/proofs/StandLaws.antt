@@ -1,182 +1,190 @@
--- Rows that stand in a table of bytes: read, written, put at the end, taken out.
-use Prim.Native.Nat.{ℕ, suc, _+_, _-_, _*_, _≤_, _<_}
+-- Rows that stand among the first records: none, one more record that is no row, one that is a new row, and a row that changes or leaves.
+use Prim.Native.Nat.{ℕ, zero, suc, _+_, _-_, _≤_, _<_}
 use mathlib.Core.Path.{_≡_, refl, sym, ap, _∙_}
-use mathlib.Core.Bool.{true}
-use mathlib.Core.List.{List, [], _∷_, _++_, map, map-append, append-nil, flatten}
+use mathlib.Core.Bool.{true, false, false≢true}
+use mathlib.Core.List.{List, [], _∷_, _++_, append-nil}
+use native.Mathlib.Decide.{ℕ-discrete, decLe}
 use native.Mathlib.Omega.{arith}
-use lib.ListN.{length, getD, take, drop, length-append, length-drop, length-map, take-append-drop}
-use lib.Seq.{take-at, drop-at, take-take, drop-cons, length-take-le}
-use Rattle.records.specs.Chunks.{chunkAt, recordsOf}
-use Rattle.records.specs.Legs.{legOf, legBytes, inRange}
-use Rattle.records.specs.Lists.{All}
-use Rattle.records.specs.Tables.{mostLegs, legsOf}
-use Rattle.records.specs.Written.{putAt}
+use lib.ListN.{length, getD, set, replicate, length-append, length-set}
+use lib.Seq.{getD-set-same, getD-set-other}
+use borrow.Author.Tests.{ne-eqb}
+use Rattle.records.specs.Legs.{withContracts}
+use Rattle.records.specs.Lines.{sameLineSide}
+use Rattle.records.specs.Tables.{mostLegs}
 use Rattle.records.specs.declared.legs.Leg.{Leg}
-use Rattle.records.proofs.JoinLaws.{flatten-append, flatten-one, length-flatten, records-joined}
-use Rattle.records.proofs.LegLaws.{length-leg-bytes, leg-back}
-use Rattle.records.proofs.ListLaws.{map-all, every, all-append, all-at, all-take, all-drop}
-use Rattle.records.proofs.PutLaws.{length-putAt}
-use Rattle.fills.specs.Rows.{bytesOf}
-use Rattle.fills.specs.Steps.{rowsIn, Stand}
-use Rattle.fills.proofs.PartLaws.{drop-take, take-put}
-use Rattle.fills.proofs.PlaceLaws.{blankLeg}
+use Rattle.records.proofs.LineLaws.{line-sym}
+use Rattle.fills.specs.Links.{bucketOf, Path, Leads}
+use Rattle.fills.specs.Steps.{rowsOf, rowsTo, Live, Blank, Stand}
+use Rattle.fills.proofs.HeldLaws.{rows-more, rows-same, length-kept, length-gone}
+use Rattle.fills.proofs.LinkLaws.{bucket-small, path-small, leads-new, leads-here, rising-new, leads-less, rising-less}
 
-abbrev Good : List Leg → Type 0
-Good rows = All (λ l. inRange 0 l ≡ true) rows
+-- zeros, and nothing past their end
+pub blank : (n : ℕ) → Blank (replicate n 0)
+blank zero j = refl
+blank (suc n) zero = refl
+blank (suc n) (suc j) = blank n j
 
--- ---- the table of rows
+pub stand-none : (leg : ℕ → Leg) (held links : List ℕ) → 1280 ≤ length held → 2301 ≤ length links → Blank held → Blank links
+    → Stand leg 0 held links 0 []
+unfolding rowsOf
+stand-none leg held links a b none free =
+    record {
+      held-room = a;
+      links-room = b;
+      few = omega arith;
+      count = refl;
+      are = refl;
+      later = λ j h. none j;
+      rising = λ l j s. absurd (omega (arith, free l));
+      linked = λ j live. absurd (live (none j));
+      apart = λ i j live. absurd (live (none i));
+    }
 
--- the rows' records, joined
-bytes-flatten : (rows : List Leg) → bytesOf rows ≡ flatten (map legBytes rows)
-unfolding bytesOf flatten
-bytes-flatten [] = refl
-bytes-flatten (x ∷ rows) = rw (bytes-flatten rows)
+-- ---- rows by what is held, and by what they are
 
-each-whole : (rows : List Leg) → All (λ r. length r ≡ 32) (map legBytes rows)
-each-whole rows = map-all legBytes (λ r. length r ≡ 32) (λ l. length (legBytes l) ≡ 32) rows (λ l e. e) (every rows length-leg-bytes)
+module _ {leg : ℕ → Leg} {k : ℕ} {held links : List ℕ} {n : ℕ} {rows : List Leg} (s : Stand leg k held links n rows) where
+  pub stand-self : Stand leg k held links n (rowsTo leg held k)
+  stand-self = rw (s .are) s
 
-bytes-append : (a b : List Leg) → bytesOf (a ++ b) ≡ bytesOf a ++ bytesOf b
-bytes-append a b =
-    rw (bytes-flatten (a ++ b), bytes-flatten a, bytes-flatten b, map-append legBytes a b) (flatten-append (map legBytes a) (map legBytes b))
+  pub stand-count : {m : ℕ} → m ≡ n → Stand leg k held links m rows
+  stand-count e = rw e s
 
-pub length-bytes : (l : List Leg) → length (bytesOf l) ≡ 32 * length l
-length-bytes l = rw (bytes-flatten l, length-flatten 32 (map legBytes l) (each-whole l), length-map)
-
-bytes-one : (x : Leg) → bytesOf (x ∷ []) ≡ legBytes x
-bytes-one x = bytes-flatten (x ∷ []) ∙ flatten-one (legBytes x)
-
-module _ (l : List Leg) (i : ℕ) (h : i ≤ length l) where
-  front : length (bytesOf (take i l)) ≡ 32 * i
-  front = length-bytes (take i l) ∙ ap (λ (n : ℕ). 32 * n) (length-take-le i l h)
-
-  split : bytesOf l ≡ bytesOf (take i l) ++ bytesOf (drop i l)
-  split = ap bytesOf (sym (take-append-drop i l)) ∙ bytes-append (take i l) (drop i l)
-
-  pub take-bytes : take (32 * i) (bytesOf l) ≡ bytesOf (take i l)
-  take-bytes = rw split (take-at (bytesOf (take i l)) (bytesOf (drop i l)) (32 * i) front)
-
-  pub drop-bytes : drop (32 * i) (bytesOf l) ≡ bytesOf (drop i l)
-  drop-bytes = rw split (drop-at (bytesOf (take i l)) (bytesOf (drop i l)) (32 * i) front)
-
-pub records-back : (rows : List Leg) → recordsOf (bytesOf rows) ≡ map legBytes rows
-records-back rows = rw (bytes-flatten rows) (records-joined (map legBytes rows) (each-whole rows))
-
-each-back : (rows : List Leg) → map legOf (map legBytes rows) ≡ rows
-each-back [] = refl
-each-back (x ∷ rows) = rw (leg-back x, each-back rows)
-
--- rows are read as they were written
-pub legs-back : (rows : List Leg) → legsOf (bytesOf rows) ≡ rows
-unfolding legsOf
-legs-back rows = rw (records-back rows) (each-back rows)
-
--- ---- rows that stand
-
-pub stand-rows : {b : List ℕ} {n : ℕ} {rows : List Leg} → Stand b n rows → rowsIn b n ≡ rows
-unfolding rowsIn
-stand-rows {b} {n} {rows} s = rw (s .is) (legs-back rows)
-
--- they are the rows that are read there
-pub stand-self : {b : List ℕ} {n : ℕ} {rows : List Leg} → Stand b n rows → Stand b n (rowsIn b n)
-stand-self s = rw (stand-rows s) s
-
-pub stand-count : {b : List ℕ} {m n : ℕ} {rows : List Leg} → n ≡ m → Stand b m rows → Stand b n rows
-stand-count e s = rw e s
-
-pub stand-none : (b : List ℕ) → 8192 ≤ length b → Stand b 0 []
-unfolding bytesOf
-stand-none b h = record { room = h; few = omega arith; count = refl; is = refl; good = tt }
-
-module _ {b : List ℕ} {n : ℕ} {rows : List Leg} (s : Stand b n rows) where
-  front-is : (i : ℕ) → i ≤ n → take (32 * i) b ≡ bytesOf (take i rows)
-  front-is i h =
-      sym (take-take (32 * i) (32 * n) b (omega arith)) ∙ ap (take (32 * i)) (s .is) ∙ take-bytes rows i (omega (arith, s .count))
-
-  back-is : (j : ℕ) → j ≤ n → take (32 * n - 32 * j) (drop (32 * j) b) ≡ bytesOf (drop j rows)
-  back-is j h =
-      sym (drop-take (32 * j) (32 * n) b (omega arith) (omega (arith, s .room, s .few)))
-      ∙ ap (drop (32 * j)) (s .is)
-      ∙ drop-bytes rows j (omega (arith, s .count))
-
-  -- row i of them
-  pub stand-good : (i : ℕ) → i < n → inRange 0 (getD rows i blankLeg) ≡ true
-  stand-good i h = all-at (λ l. inRange 0 l ≡ true) rows i blankLeg (s .good) (omega (arith, s .count))
-
-  row-bytes : (i : ℕ) → i < n → chunkAt 32 b i ≡ legBytes (getD rows i blankLeg)
-  unfolding bytesOf
-  row-bytes i h =
-      let y = getD rows i blankLeg in
-      sym (take-take 32 (32 * n - 32 * i) (drop (32 * i) b) (omega arith))
-      ∙ ap (take 32) (back-is i (omega arith) ∙ ap bytesOf (drop-cons rows i blankLeg (omega (arith, s .count))))
-      ∙ take-at (legBytes y) (bytesOf (drop (suc i) rows)) 32 (length-leg-bytes y)
-
-  pub stand-at : (i : ℕ) → i < n → legOf (chunkAt 32 b i) ≡ getD rows i blankLeg
-  stand-at i h = rw (row-bytes i h) (leg-back (getD rows i blankLeg))
-
-  -- row i written anew
-  pub stand-put : (i : ℕ) (l : Leg) → i < n → inRange 0 l ≡ true
-      → Stand (putAt b (32 * i) (legBytes l)) n (take i rows ++ (l ∷ []) ++ drop (suc i) rows)
-  stand-put i l h g =
-      let k = length-leg-bytes l in
-      let c : length (putAt b (32 * i) (legBytes l)) ≡ length b = length-putAt b (32 * i) (legBytes l) (omega (arith, s .room, s .few)) in
-      let q : 32 * i + length (legBytes l) ≡ 32 * suc i = omega arith in
+  -- record k is no row
+  pub stand-skip : Stand leg (k + 1) held links n rows
+  stand-skip =
+      let none = s .later k (omega arith) in
       record {
-        room = omega (arith, s .room);
+        held-room = s .held-room;
+        links-room = s .links-room;
         few = s .few;
-        count =
-            length-append (take i rows ++ (l ∷ [])) (drop (suc i) rows)
-            ∙ ap (λ (t : ℕ). t + length (drop (suc i) rows)) (length-append (take i rows) (l ∷ []))
-            ∙ omega (arith, s .count, length-take-le i rows (omega (arith, s .count)), length-drop (suc i) rows);
-        is =
-            take-put b (32 * i) (32 * n) (legBytes l) (omega (arith, s .room, s .few)) (omega arith)
-            ∙ rw (q, front-is i (omega arith), back-is (suc i) h)
-            (sym (bytes-append (take i rows ++ (l ∷ [])) (drop (suc i) rows)
-            ∙ ap (λ (t : List ℕ). t ++ bytesOf (drop (suc i) rows)) (bytes-append (take i rows) (l ∷ []) ∙ ap (λ (t : List ℕ). bytesOf (take i rows) ++ t) (bytes-one l))));
-        good =
-            all-append (λ l. inRange 0 l ≡ true) (take i rows ++ (l ∷ [])) (drop (suc i) rows)
-            (all-append (λ l. inRange 0 l ≡ true) (take i rows) (l ∷ []) (all-take (λ l. inRange 0 l ≡ true) i rows (s .good)) (g, tt))
-            (all-drop (λ l. inRange 0 l ≡ true) (suc i) rows (s .good));
+        count = s .count;
+        are = rows-more leg held k ∙ rw none (append-nil (rowsTo leg held k) ∙ s .are);
+        later = λ j h. s .later j (omega arith);
+        rising = λ l j t. (let r = s .rising l j t in (omega (arith, r .0), r .1));
+        linked = s .linked;
+        apart = s .apart;
       }
 
-  -- a row put at the end
-  pub stand-add : (l : Leg) → n < mostLegs → inRange 0 l ≡ true → Stand (putAt b (32 * n) (legBytes l)) (n + 1) (rows ++ l ∷ [])
-  stand-add l h g =
-      let k = length-leg-bytes l in
-      let c : length (putAt b (32 * n) (legBytes l)) ≡ length b = length-putAt b (32 * n) (legBytes l) (omega (arith, s .room)) in
-      let q : 32 * (n + 1) - (32 * n + length (legBytes l)) ≡ 0 = omega arith in
+  pub live-before : (j : ℕ) → Live held j → j < k
+  live-before j live =
+      elim (decLe k j) [
+        | yes h ↦ absurd (live (s .later j h))
+        | no h ↦ omega arith
+      ]
+
+-- ---- what is held of row j is v now
+
+module _ {leg : ℕ → Leg} {k : ℕ} {held links : List ℕ} {n : ℕ} {rows : List Leg} (s : Stand leg k held links n rows) (small : k < 1280)
+    (j : ℕ) (live : Live held j) where
+  there : j < k
+  there = live-before s j live
+
+  room : j < length held
+  room = omega (arith, there, s .held-room)
+
+  was-live : (v i : ℕ) → Live (set held j v) i → Live held i
+  was-live v i l =
+      elim (ℕ-discrete i j) [
+        | yes e ↦ rw e live
+        | no m ↦ (λ z. l (getD-set-other held j i v 0 m ∙ z))
+      ]
+
+  still-none : (v i : ℕ) → k ≤ i → getD (set held j v) i 0 ≡ 0
+  still-none v i h = getD-set-other held j i v 0 (λ e. omega (arith, there)) ∙ s .later i h
+
+  pub stand-changed : (v : ℕ) → (v ≡ 0 → ⊥) → Stand leg k (set held j v) links n (rowsTo leg (set held j v) k)
+  stand-changed v some =
       record {
-        room = omega (arith, s .room);
-        few = omega arith;
-        count = length-append rows (l ∷ []) ∙ omega (arith, s .count);
-        is =
-            take-put b (32 * n) (32 * (n + 1)) (legBytes l) (omega (arith, s .room)) (omega arith)
-            ∙ rw (q, s .is, append-nil)
-            (sym (bytes-append rows (l ∷ []) ∙ ap (λ (t : List ℕ). bytesOf rows ++ t) (bytes-one l)));
-        good = all-append (λ l. inRange 0 l ≡ true) rows (l ∷ []) (s .good) (g, tt);
+        held-room = simp length-set (s .held-room);
+        links-room = s .links-room;
+        few = s .few;
+        count = length-kept leg held k j there room live v some ∙ ap length (s .are) ∙ s .count;
+        are = refl;
+        later = still-none v;
+        rising = s .rising;
+        linked = λ i l. s .linked i (was-live v i l);
+        apart = λ i m a b q. s .apart i m (was-live v i a) (was-live v m b) q;
       }
 
-  -- row i taken out, those behind it moved up
-  pub stand-drop : (i : ℕ) → i < n
-      → Stand (putAt b (32 * i) (take (32 * n - (32 * i + 32)) (drop (32 * i + 32) b))) (n - 1) (take i rows ++ drop (suc i) rows)
-  stand-drop i h =
-      let q : 32 * i + 32 ≡ 32 * suc i = omega arith in
-      let v : take (32 * n - (32 * i + 32)) (drop (32 * i + 32) b) ≡ bytesOf (drop (suc i) rows) = rw q (back-is (suc i) h) in
-      let w : length (bytesOf (drop (suc i) rows)) ≡ 32 * n - 32 * suc i =
-      length-bytes (drop (suc i) rows) ∙ omega (arith, length-drop (suc i) rows, s .count) in
-      let m : 32 * (n - 1) - (32 * i + length (bytesOf (drop (suc i) rows))) ≡ 0 = omega arith in
-      let c : length (putAt b (32 * i) (bytesOf (drop (suc i) rows))) ≡ length b = length-putAt b (32 * i) (bytesOf (drop (suc i) rows)) (omega (arith, s .room, s .few)) in
-      rw v
-      (record {
-        room = omega (arith, s .room);
-        few = omega (arith, s .few);
-        count =
-            length-append (take i rows) (drop (suc i) rows)
-            ∙ omega (arith, s .count, length-take-le i rows (omega (arith, s .count)), length-drop (suc i) rows);
-        is =
-            take-put b (32 * i) (32 * (n - 1)) (bytesOf (drop (suc i) rows)) (omega (arith, s .room, s .few)) (omega arith)
-            ∙ rw (m, front-is i (omega arith), append-nil) (sym (bytes-append (take i rows) (drop (suc i) rows)));
-        good =
-            all-append (λ l. inRange 0 l ≡ true) (take i rows) (drop (suc i) rows)
-            (all-take (λ l. inRange 0 l ≡ true) i rows (s .good))
-            (all-drop (λ l. inRange 0 l ≡ true) (suc i) rows (s .good));
-      })
+  -- it leaves, and so does its link
+  module _ (at : ℕ) (t : getD links at 0 ≡ suc j) where
+    at-small : at < 1021 + j
+    at-small = s .rising at j t .1
+
+    at-room : at < length links
+    at-room = omega (arith, at-small, there, s .links-room)
+
+    not-gone : (i : ℕ) → Live (set held j 0) i → i ≡ j → ⊥
+    not-gone i l e = l (ap (λ (m : ℕ). getD (set held j 0) m 0) e ∙ getD-set-same held j 0 0 room)
+
+    pub stand-gone : Stand leg k (set held j 0) (set links at (getD links (1021 + j) 0)) (n - 1) (rowsTo leg (set held j 0) k)
+    stand-gone =
+        record {
+          held-room = simp length-set (s .held-room);
+          links-room = simp length-set (s .links-room);
+          few = omega (arith, s .few);
+          count = omega (arith, length-gone leg held k j there room live, ap length (s .are), s .count);
+          are = refl;
+          later = still-none 0;
+          rising = rising-less links j at t at-small at-room k (s .rising);
+          linked = λ i l. leads-less links j at t at-small at-room i (not-gone i l) (s .linked i (was-live 0 i l));
+          apart = λ i m a b q. s .apart i m (was-live 0 i a) (was-live 0 m b) q;
+        }
+
+-- ---- record k is a new row, linked at the free link of its bucket
+
+module _ {leg : ℕ → Leg} {k : ℕ} {held links : List ℕ} {n : ℕ} {rows : List Leg} (s : Stand leg k held links n rows) (small : k < 1280) (at : ℕ)
+    (path : Path links (bucketOf (leg k)) at) where
+  pub link-small : at < 1021 + k
+  link-small = path-small k (s .rising) (bucket-small k (leg k)) path
+
+  module _ (none : getD links at 0 ≡ 0) (others : (i : ℕ) → Live held i → sameLineSide (leg k) (leg i) ≡ false)
+      (v : ℕ) (is : v ≡ leg k .contracts .0) (some : v ≡ 0 → ⊥) (few : n < mostLegs) where
+    held-long : k < length held
+    held-long = omega (arith, s .held-room)
+
+    at-fits : at < length links
+    at-fits = omega (arith, link-small, s .links-room)
+
+    old : (i : ℕ) → (i ≡ k → ⊥) → Live (set held k v) i → Live held i
+    old i m l z = l (getD-set-other held k i v 0 m ∙ z)
+
+    rows-new : rowsTo leg (set held k v) (k + 1) ≡ rows ++ leg k ∷ []
+    unfolding withContracts
+    rows-new =
+        rows-more leg (set held k v) k
+        ∙ rw (getD-set-same held k v 0 held-long, ne-eqb v 0 some, rows-same leg held (set held k v) k 0 (λ i a b. getD-set-other held k i v 0 (λ e. omega arith)), s .are, is)
+
+    linked-new : (i : ℕ) → Live (set held k v) i → Leads (set links at (suc k)) (bucketOf (leg i)) i
+    linked-new i l =
+        elim (ℕ-discrete i k) [
+          | yes e ↦ rw e (leads-here links k at none at-fits path)
+          | no m ↦ leads-new links k at none at-fits (s .linked i (old i m l))
+        ]
+
+    apart-new : (i j : ℕ) → Live (set held k v) i → Live (set held k v) j → sameLineSide (leg i) (leg j) ≡ true → i ≡ j
+    apart-new i j a b q =
+        elim (ℕ-discrete i k) [
+          | yes e ↦ elim (ℕ-discrete j k) [
+            | yes f ↦ e ∙ sym f
+            | no m ↦ absurd (false≢true (sym (others j (old j m b)) ∙ ap (λ (h : ℕ). sameLineSide (leg h) (leg j)) (sym e) ∙ q))
+          ]
+          | no m ↦ elim (ℕ-discrete j k) [
+            | yes f ↦ absurd (false≢true (sym (others i (old i m a)) ∙ line-sym (leg k) (leg i) ∙ ap (λ (h : ℕ). sameLineSide (leg i) (leg h)) (sym f) ∙ q))
+            | no w ↦ s .apart i j (old i m a) (old j w b) q
+          ]
+        ]
+
+    pub stand-new : Stand leg (k + 1) (set held k v) (set links at (suc k)) (n + 1) (rows ++ leg k ∷ [])
+    stand-new =
+        record {
+          held-room = simp length-set (s .held-room);
+          links-room = simp length-set (s .links-room);
+          few = omega arith;
+          count = length-append rows (leg k ∷ []) ∙ omega (arith, s .count);
+          are = rows-new;
+          later = λ j h. getD-set-other held k j v 0 (λ e. omega arith) ∙ s .later j (omega arith);
+          rising = rising-new links k at none at-fits link-small (s .rising);
+          linked = linked-new;
+          apart = apart-new;
+        }

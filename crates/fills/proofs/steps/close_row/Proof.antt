@@ -1,109 +1,132 @@
-use Prim.Native.Nat.{_*_}
+use Prim.Native.Nat.{ℕ, suc, _+_, _-_, _≤_, _<_}
 use mathlib.Core.Path.{_≡_, sym, ap, _∙_}
 use native.Mathlib.Omega.{arith}
 use denote.Ref.{now}
-use lib.ListN.{getD}
-use lib.Seq.{length-take-le}
+use lib.ListN.{length, getD, length-set}
 use borrow.Author.Needs.{needs}
-use Rattle.records.specs.Legs.{legBytes}
-use Rattle.records.specs.Written.{putAt}
 use Rattle.records.specs.declared.legs.Leg.{Leg}
-use Rattle.fills.specs.Steps.{placeOf, rowsIn}
-use Rattle.fills.specs.Rows.{fewer}
-use Rattle.fills.proofs.PostLaws.{take-some, take-all, take-past, take-none}
-use Rattle.fills.proofs.StandLaws.{stand-at}
+use Rattle.fills.specs.Links.{legIn, bucketOf, isRow, Ended}
+use Rattle.fills.proofs.PostLaws.{there, rows-held, take-some, take-all, take-past, take-none}
+use Rattle.fills.proofs.StandLaws.{link-small}
 use Rattle.fills.proofs.steps.close_row.Statement.{statement}
 use Rattle.fills.proofs.steps.close_row.Tie as tie
-use Rattle.fills.proofs.PlaceLaws.{blankLeg}
 
-abbrev start : tie.After-find-row → tie.Start
-start f = f .before .before .before
+abbrev start : tie.After-link-of → tie.Start
+start f = f .before .before .before .before .before .before .before .before
 
-place : (f : tie.After-find-row) → let a = start f .args in f .find-row .result ≡ placeOf (a .leg) (rowsIn (now (a .rows)) (a .n))
-unfolding rowsIn
-place f = f .find-row .ensures
+link-of-requires : tie.Need-link-of-requires
+link-of-requires c κs =
+    let z = c .before .before .before .before .before .before .before in
+    let s = z .pre .0 in
+    ((s .held-room, s .links-room), λ l j t. (let r = s .rising l j t in (omega (arith, r .0, z .pre .1 .0), r .1)))
 
--- the row that is there
-row : (l : tie.After-leg-at)
-    → let t = l .before .before in let a = start (t .before) .args in l .leg-at .result ≡ getD (rowsIn (now (a .rows)) (a .n)) (t .before .find-row .result) blankLeg
-row l =
-    let t = l .before .before in
-    l .leg-at .ensures ∙ stand-at (start (t .before) .pre .0) (t .before .find-row .result) (t .if1 .taken)
+-- where the search ended
+ended : (f : tie.After-link-of)
+    → (let a = start f .args in
+    let leg = legIn (now (a .holdings)) (now (a .fills)) in
+    Ended (isRow leg (now (a .held)) (leg (a .k))) (now (a .links)) (bucketOf (leg (a .k))) (f .link-of .result))
+ended f = rw (f .before .before .before .leg-in .ensures) at (f .link-of .ensures)
 
--- the contracts of it
-held : (k : tie.After-number2)
-    → let l = k .before .before in
-    let t = l .before .before in
-    let a = start (t .before) .args in
-    k .before .number .result ≡ getD (rowsIn (now (a .rows)) (a .n)) (t .before .find-row .result) blankLeg .contracts .0
-held k = k .before .number .ensures ∙ ap (λ (y : Leg). y .contracts .0) (row (k .before .before))
+small : (f : tie.After-link-of) → (f .link-of .result < 2301) × (2301 ≤ length (now (start f .args .links)))
+small f =
+    let z = start f in
+    (omega (arith, link-small (z .pre .0) (z .pre .1 .0) _ (ended f .path), z .pre .1 .0), z .pre .0 .links-room)
+
+-- the row that it ended at
+linked : (e : tie.Else1) → getD (now (start (e .before .before .before) .args .links)) (e .before .before .before .link-of .result) 0 ≡ suc (e .before .wide .result - 1)
+linked e =
+    let w = e .before in
+    let h = e .if1 .left in
+    let q : w .wide .result ≡ suc (w .wide .result - 1) = omega arith in
+    sym (w .wide .ensures) ∙ q
+
+row : (e : tie.Else1) → (e .before .wide .result - 1 < 1280) × (1280 ≤ length (now (start (e .before .before .before) .args .held)))
+row e =
+    let f = e .before .before .before in
+    let z = start f in
+    (omega (arith, there (z .pre .0) (z .pre .1 .0) (z .pre .1 .1) _ (ended f) _ (linked e), z .pre .1 .0), z .pre .0 .held-room)
+
+some : (e : tie.Else1) → 1 ≤ start (e .before .before .before) .args .n
+some e =
+    let f = e .before .before .before in
+    let z = start f in
+    rows-held (z .pre .0) (z .pre .1 .0) (z .pre .1 .1) _ (ended f) _ (linked e)
+
+-- what is taken
+taken : (m : tie.After-number)
+    → (let f = m .before .before .before .before .before in
+    let a = start f .args in
+    m .number .result ≡ legIn (now (a .holdings)) (now (a .fills)) (a .k) .contracts .0)
+taken m =
+    let f = m .before .before .before .before .before in
+    m .number .ensures ∙ ap (λ (l : Leg). l .contracts .0) (f .before .before .before .leg-in .ensures)
 
 returns : tie.Need-returns
 returns c =
-    let p = c .before .before in
-    let w = p .before in
-    let d = w .before in
-    let t₂ = d .before .before in
-    let k = t₂ .before in
-    let l = k .before .before in
-    let t₁ = l .before .before in
-    let f = t₁ .before in
+    let w = c .before in
+    let f = w .before .before in
     let z = start f in
-    let y = getD (rowsIn (now (z .args .rows)) (z .args .n)) (f .find-row .result) blankLeg in
-    let e : w .with-contracts .result ≡ fewer y (z .args .leg) = rw (w .with-contracts .ensures, d .less .ensures, row l) in
-    rw (p .put-row .ensures ∙ ap (λ (r : Leg). putAt (now (z .args .rows)) (32 * f .find-row .result) (legBytes r)) e)
-    (take-some (z .pre .0) (z .args .leg) (z .pre .1) (f .find-row .result) (place f) (t₁ .if1 .taken)
-    (omega (arith, held k, k .number2 .ensures, t₂ .if2 .taken)))
+    take-none (z .pre .0) (z .pre .1 .0) (z .pre .1 .1) _ (ended f) (sym (w .wide .ensures) ∙ c .if1 .taken)
 
 returns-2 : tie.Need-returns-2
 returns-2 c =
-    let p = c .before .before in
-    let t₃ = p .before .before in
-    let k = t₃ .before .before in
-    let t₁ = k .before .before .before .before in
-    let f = t₁ .before in
+    let m = c .before in
+    let e = m .before .before in
+    let f = e .before .before .before in
     let z = start f in
-    rw (p .move-up .ensures)
-    (take-all (z .pre .0) (z .args .leg) (z .pre .1) (f .find-row .result) (place f) (t₁ .if1 .taken)
-    (omega (arith, held k, k .number2 .ensures, t₃ .if3 .taken)))
+    let lot = getD (now (z .args .held)) (e .before .wide .result - 1) 0 in
+    take-some (z .pre .0) (z .pre .1 .0) (z .pre .1 .1) _ (ended f) _ (linked e) _ (ap (λ (t : ℕ). lot - t) (taken m)) (rw (taken m) at (c .if2 .taken))
 
 returns-3 : tie.Need-returns-3
 returns-3 c =
-    let k = c .before .before in
-    let t₁ = k .before .before .before .before in
-    let f = t₁ .before in
+    let t₃ = c .before in
+    let m = t₃ .before .before in
+    let e = m .before .before in
+    let f = e .before .before .before in
     let z = start f in
-    take-past (z .pre .0) (z .args .leg) (z .pre .1) (f .find-row .result) (place f) (t₁ .if1 .taken)
-    (omega (arith, held k, k .number2 .ensures, c .before .if2 .left, c .if3 .left))
+    take-all (z .pre .0) (z .pre .1 .0) (z .pre .1 .1) _ (ended f) _ (linked e) (sym (taken m) ∙ t₃ .if3 .taken)
 
 returns-4 : tie.Need-returns-4
 returns-4 c =
-    let f = c .before in
+    let m = c .before .before in
+    let e = m .before .before in
+    let f = e .before .before .before in
     let z = start f in
-    take-none (z .pre .0) (z .args .leg) (z .pre .1) (f .find-row .result) (place f) (c .if1 .left)
+    take-past (z .pre .0) (z .pre .1 .0) (z .pre .1 .1) _ (ended f) _ (linked e) (omega (arith, taken m, c .before .if2 .left, c .if3 .left))
 
 pub close-row-spec : {M : Type 1} → statement M
 close-row-spec =
     tie.close
     (tie.spec
+    (λ c κs. search needs)
+    link-of-requires
+    (λ c. omega (arith, small c .0, small c .1))
+    (λ c. omega (arith, small (c .before) .0, small (c .before) .1))
+    (λ c κs. search needs)
     (λ c. search needs)
-    (λ c. search needs)
-    (λ c. sym (length-take-le _ _ (omega arith)))
-    (λ c κs. search needs)
-    (λ c κs. search needs)
-    (λ c κs. search needs)
-    (λ c κs. search needs)
-    (λ c κs. search needs)
-    (λ c κs. search needs)
-    (λ c κs. search needs)
     (λ c. search needs)
     returns
-    (λ c. search needs)
+    (λ c. omega arith)
+    (λ c. omega (arith, row c .0, row c .1))
+    (λ c. omega (arith, row (c .before) .0, row (c .before) .1))
     (λ c κs. search needs)
-    (λ c. search needs)
+    (λ c. omega arith)
+    (λ c. omega (arith, row (c .before .before .before) .0, row (c .before .before .before) .1))
+    (λ c. omega (arith, row (c .before .before .before) .0, row (c .before .before .before) .1))
+    (λ c. simp length-set)
     (λ c. search needs)
     returns-2
-    (λ c. search needs)
+    (λ c. omega (arith, row (c .before .before .before .before) .0))
+    (λ c. omega (arith, row (c .before .before .before .before) .0))
+    (λ c. omega (arith, row (c .before .before .before .before .before) .0, small (c .before .before .before .before .before .before .before .before) .1))
+    (λ c. omega (arith, row (c .before .before .before .before .before) .0, row (c .before .before .before .before .before) .1))
+    (λ c. omega (arith, row (c .before .before .before .before .before) .0, row (c .before .before .before .before .before) .1))
+    (λ c. omega (arith, small (c .before .before .before .before .before .before .before .before) .0, small (c .before .before .before .before .before .before .before .before) .1))
+    (λ c. omega (arith, small (c .before .before .before .before .before .before .before .before) .0, small (c .before .before .before .before .before .before .before .before) .1))
+    (λ c. omega (arith, some (c .before .before .before .before .before)))
+    (λ c. simp length-set)
+    (λ c. simp length-set)
     returns-3
+    (λ c. search needs)
     (λ c. search needs)
     returns-4)

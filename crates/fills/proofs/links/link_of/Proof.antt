@@ -1,0 +1,118 @@
+use Prim.Native.Nat.{ℕ, suc, _-_, _+_, _<_}
+use mathlib.Core.Path.{_≡_, refl, sym, ap, _∙_}
+use mathlib.Core.Bool.{Bool, true, not, _&&_, false≢true}
+use native.Mathlib.Omega.{arith}
+use denote.Ref.{now}
+use lib.Dec.{eqb}
+use lib.ListN.{length, getD}
+use borrow.Author.Needs.{needs}
+use Rattle.fills.specs.Links.{legIn, bucketOf, isRow, Path, Leads}
+use Rattle.fills.specs.Links as links-of
+use Rattle.fills.proofs.LinkLaws.{leads-none, leads-on}
+use Rattle.fills.proofs.links.link_of.Statement.{statement}
+use Rattle.fills.proofs.links.link_of.Tie as tie
+
+abbrev Inv-loop : tie.InvT-loop
+Inv-loop leg holdings fills held links link₀ link =
+    (link < 2301)
+    × ((e : ℕ) → Path links link e → Path links (bucketOf leg) e)
+    × ((k : ℕ) → Leads links (bucketOf leg) k → isRow (legIn holdings fills) held leg k ≡ true → Leads links link k)
+
+abbrev μ-loop : tie.MeasureT-loop
+μ-loop leg holdings fills held links link₀ link = length links - link
+
+abbrev start : tie.At-loop Inv-loop μ-loop → tie.Start Inv-loop μ-loop
+start l = l .before .before .before .before .before .before
+
+loop-holds : tie.Need-loop-holds Inv-loop μ-loop
+loop-holds c =
+    let b = c .bucket-of .ensures in
+    (omega (arith, b .1), λ e p. rw (sym (b .0)) p, λ k d t. rw (b .0) d)
+
+-- the record that the link leads to
+linked : (c : tie.Else1 Inv-loop μ-loop)
+    → (let w = c .before in
+    let l = w .before .before in
+    getD (now (start l .args .links)) (l .loop .link) 0 ≡ suc (w .wide .result - 1))
+linked c =
+    let w = c .before in
+    let h = c .if1 .left in
+    let e : w .wide .result ≡ suc (w .wide .result - 1) = omega arith in
+    sym (w .wide .ensures) ∙ e
+
+-- links rise
+rises : (c : tie.Else1 Inv-loop μ-loop)
+    → (let w = c .before in
+    (w .wide .result - 1 < 1280) × (w .before .before .loop .link < 1021 + (w .wide .result - 1)))
+rises c =
+    let w = c .before in
+    let l = w .before .before in
+    start l .pre .1 (l .loop .link) (w .wide .result - 1) (linked c)
+
+-- what the test says of the record that the link leads to
+tested : (c : tie.After-same-line-side Inv-loop μ-loop) (b : Bool)
+    → (let w = c .before .before .before .before in
+    let a = start (w .before .before) .args in
+    (not (eqb (getD (now (a .held)) (w .wide .result - 1) 0) 0) && c .same-line-side .result ≡ b)
+    → isRow (legIn (now (a .holdings)) (now (a .fills))) (now (a .held)) (a .leg) (w .wide .result - 1) ≡ b)
+tested c b e = rw (sym (c .before .leg-in .ensures), sym (c .same-line-side .ensures)) e
+
+returns : tie.Need-returns Inv-loop μ-loop
+returns c =
+    let w = c .before in
+    let l = w .before .before in
+    let z = sym (w .wide .ensures) ∙ c .if1 .taken in
+    record {
+      path = l .loop .inv .1 (l .loop .link) (links-of.stop refl);
+      found = λ j s. absurd (omega (arith, z, s));
+      none = λ f k d t. leads-none k (l .loop .inv .2 k d t) f;
+    }
+
+returns-2 : tie.Need-returns-2 Inv-loop μ-loop
+returns-2 c =
+    let e = c .before .before .before .before in
+    let w = e .before in
+    let l = w .before .before in
+    let a = start l .args in
+    record {
+      path = l .loop .inv .1 (l .loop .link) (links-of.stop refl);
+      found =
+          λ i s. (let same : i ≡ w .wide .result - 1 = omega (arith, linked e, s) in
+          ap (isRow (legIn (now (a .holdings)) (now (a .fills))) (now (a .held)) (a .leg)) same ∙ tested (c .before) _ (c .if2 .taken));
+      none = λ f. absurd (omega (arith, linked e, f));
+    }
+
+loop-again : tie.Need-loop-again Inv-loop μ-loop
+loop-again c =
+    let e = c .before .before .before .before in
+    let w = e .before in
+    let l = w .before .before in
+    let a = start l .args in (
+      omega (arith, rises e .0),
+      λ at p. l .loop .inv .1 at (links-of.on (w .wide .result - 1) (linked e) p),
+      λ k d t. leads-on (w .wide .result - 1) k (linked e)
+          (λ q. false≢true (sym (tested (c .before) _ (c .if2 .left)) ∙ ap (isRow (legIn (now (a .holdings)) (now (a .fills))) (now (a .held)) (a .leg)) (sym q) ∙ t))
+          (l .loop .inv .2 k d t),
+    )
+
+pub link-of-spec : {M : Type 1} → statement M
+link-of-spec =
+    tie.close
+    (tie.spec
+    Inv-loop
+    μ-loop
+    (λ c κs. search needs)
+    loop-holds
+    (λ c. omega arith)
+    (λ c. omega arith)
+    (λ c κs. search needs)
+    returns
+    (λ c. omega arith)
+    (λ c. omega (arith, rises c .0))
+    (λ c. omega (arith, rises (c .before) .0))
+    (λ c κs. search needs)
+    (λ c κs. search needs)
+    returns-2
+    (λ c. omega (arith, rises (c .before .before .before .before) .0))
+    (λ c. omega (arith, rises (c .before .before .before .before) .1))
+    loop-again)

@@ -1,0 +1,48 @@
+-- The row of a line and side, found from link to link: for the contracts of functions that are not public. Holdings and fills are
+-- taken as one row of records. A link is to a record, counted from 1, or to none, 0: there is one for each bucket, and one for each
+-- record, to the next of its bucket.
+use mathlib.Core.Path.{_≡_}
+use mathlib.Core.Bool.{Bool, true, not, cond, _&&_}
+use mathlib.Core.List.{List}
+use Prim.Native.Nat.{ℕ, suc, _+_, _-_, _*_, _/_, _%_, _<_}
+use lib.Dec.{eqb, ltb}
+use lib.ListN.{length, getD}
+use Rattle.records.specs.Chunks.{chunkAt}
+use Rattle.records.specs.Legs.{legOf}
+use Rattle.records.specs.Lines.{sameLineSide}
+use Rattle.records.specs.declared.legs.Leg.{Leg}
+use Rattle.fills.specs.Rows.{unmarked}
+
+-- record k of both tables: the holdings without their marks, then the fills
+unfoldable pub legIn : List ℕ → List ℕ → ℕ → Leg
+legIn h f k = cond (ltb k (length h / 32)) (unmarked (chunkAt 32 h k)) (legOf (chunkAt 32 f (k - length h / 32)))
+
+-- which of 1,021 buckets a leg is in: legs of one line and side are in one
+unfoldable pub bucketOf : Leg → ℕ
+bucketOf l =
+    (l .strike + 3 * l .expiry + 31 * l .underlying + 17 * l .size + 7 * l .side + 5 * l .right) % 1021
+
+-- record j is a row, of x's line and side
+abbrev pub isRow : (ℕ → Leg) → List ℕ → Leg → ℕ → Bool
+isRow leg held x j = not (eqb (getD held j 0) 0) && sameLineSide x (leg j)
+
+-- links lead to the first k records, and each to one whose own link comes after it
+abbrev pub Rising : ℕ → List ℕ → Type 0
+Rising k links = (l j : ℕ) → getD links l 0 ≡ suc j → (j < k) × (l < 1021 + j)
+
+-- the links go on from link l to link `end`
+pub data Path (links : List ℕ) : ℕ → ℕ → Type 0 where
+  stop : {l end : ℕ} → end ≡ l → Path links l end
+  on : {l end : ℕ} (j : ℕ) → getD links l 0 ≡ suc j → Path links (1021 + j) end → Path links l end
+
+-- from link l on they lead to record k
+pub record Leads (links : List ℕ) (l k : ℕ) : Type 0 where
+  pub end : ℕ
+  pub path : Path links l end
+  pub last : getD links end 0 ≡ suc k
+
+-- the search from link l on ends at link `end`: at the first record that is such a row, or, where there is none, at the free link
+pub record Ended (row : ℕ → Bool) (links : List ℕ) (l end : ℕ) : Type 0 where
+  pub path : Path links l end
+  pub found : (j : ℕ) → getD links end 0 ≡ suc j → row j ≡ true
+  pub none : getD links end 0 ≡ 0 → (k : ℕ) → Leads links l k → row k ≡ true → ⊥

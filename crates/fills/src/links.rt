@@ -1,0 +1,68 @@
+// The row of a line and side, found from link to link. Holdings and fills are taken as one row of records. A link is
+// to a record, counted from 1, or to none, 0: there is one for each bucket, and one for each record, to the next of
+// its bucket.
+ghost use mathlib.Core.Path.{_≡_};
+ghost use Prim.Native.Nat.{_≤_, _<_};
+ghost use lib.ListN.{length};
+ghost use Rattle.fills.specs.Links.{legIn, bucketOf, isRow, Rising, Ended};
+use crate::fill::MOST_FILLS;
+use records::Leg;
+use records::MOST_LEGS;
+use records::RECORD_BYTES;
+
+// The records of both tables, and their links.
+pub(crate) const MOST_RECORDS: usize = MOST_LEGS + MOST_FILLS;
+
+pub(crate) const BUCKETS: usize = 1021;
+
+pub(crate) const MOST_LINKS: usize = BUCKETS + MOST_RECORDS;
+
+// Record k of both tables: a holding without its mark, or a fill.
+pub(crate) fn leg_in(holdings: &[u8], fills: &[u8], k: usize) -> Leg
+    ensures { λ r. ⌜ r ≡ legIn (now (holdings .entry)) (now (fills .entry)) k ⌝ }
+{
+    let before = holdings.len() / RECORD_BYTES;
+    if k < before {
+        return records::leg_at(holdings, k).with_paid(0);
+    }
+    records::leg_at(fills, k - before)
+}
+
+// A record's place in the row, kept in 16 bits.
+pub(crate) fn wide(x: u16) -> usize
+    ensures { λ r. ⌜ r ≡ x ⌝ }
+{
+    x as usize
+}
+
+fn bucket_of(leg: Leg) -> usize
+    ensures { λ r. ⌜ (r ≡ bucketOf leg) × (r < 1021) ⌝ }
+{
+    let terms = leg.strike as usize
+        + 3 * (leg.expiry as usize)
+        + 31 * (leg.underlying as usize)
+        + 17 * (leg.size as usize)
+        + 7 * (leg.side as usize)
+        + 5 * (leg.right as usize);
+    terms % BUCKETS
+}
+
+// The link to the row of the leg's line and side, or the free one at the end of its bucket.
+pub(crate) fn link_of(leg: Leg, holdings: &[u8], fills: &[u8], held: &[u32], links: &[u16]) -> usize
+    requires { ⌜ (1280 ≤ length (now held)) × (2301 ≤ length (now links)) ⌝ }
+    requires { ⌜ Rising 1280 (now links) ⌝ }
+    ensures { λ r. ⌜ Ended (isRow (legIn (now (holdings .entry)) (now (fills .entry))) (now (held .entry)) leg) (now (links .entry)) (bucketOf leg) r ⌝ }
+{
+    let mut link = bucket_of(leg);
+    loop {
+        let at = wide(links[link]);
+        if at == 0 {
+            return link;
+        }
+        let j = at - 1;
+        if !(held[j] == 0) & records::same_line_side(leg, leg_in(holdings, fills, j)) {
+            return link;
+        }
+        link = BUCKETS + j;
+    }
+}
