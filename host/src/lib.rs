@@ -7,7 +7,7 @@
 //! rules' order, whose [`Reason`] names it. [`play`] builds holdings from a day's fills,
 //! [`holdings_of_list`] from a list of option symbols, and [`salvage_file`] makes a sound file of a damaged
 //! one; [`binary_margin`] and [`binary_pair`] are for credit event binaries. [`sentences`] says for people
-//! what is wrong, and [`text`] reads and writes sheets as text.
+//! what is wrong, [`text`] reads and writes sheets as text, and [`csv`] their tables as a spreadsheet does.
 //!
 //! No call keeps any state: all may be made from any number of threads at once.
 
@@ -17,6 +17,7 @@
 /// The version of the whole, as the header `usm.h` has it.
 pub const VERSION: &str = env!("USM_VERSION");
 
+pub mod csv;
 pub mod numbers;
 pub mod sentences;
 pub mod text;

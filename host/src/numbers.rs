@@ -82,6 +82,8 @@ mod tests {
     fn the_ends_of_the_ranges_are_written_too() {
         assert_eq!(dollars(i64::MIN), "-$9,223,372,036,854,775.808");
         assert_eq!(dollars(0), "$0.000");
+        let more = i128::from(i64::MAX) + 1;
+        assert_eq!(amount(more), "$9,223,372,036,854,775.808 (9223372036854775808 mills)");
         assert_eq!(ordinal(u64::MAX), "18,446,744,073,709,551,616th");
         assert_eq!([9, 11, 12, 21, 101].map(ordinal), ["10th", "12th", "13th", "22nd", "102nd"]);
         assert_eq!([0, 1, 2_000].map(|n: u64| count(n, "leg")), ["0 legs", "1 leg", "2,000 legs"]);

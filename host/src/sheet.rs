@@ -133,14 +133,20 @@ impl Sheet {
 
     /// The sheet in a file of either form, judged only as far as the reader does (1 to 4, 20).
     pub fn from_file(file: &[u8]) -> Result<Sheet, Refusal> {
+        Sheet::with_origin(file).map(|(sheet, _)| sheet)
+    }
+
+    /// The same, with the form of the file and its account, as the reader answers them.
+    pub fn with_origin(file: &[u8]) -> Result<(Sheet, Origin), Refusal> {
         let [mut holdings, mut placement, mut claims] = Table::ALL.map(|table| vec![0; table.most_bytes()]);
         let (counts, origin) = calls::read_file(file, &mut holdings, &mut placement, &mut claims)?;
-        Ok(Sheet {
+        let sheet = Sheet {
             account: origin.account,
             holdings: records(&holdings, counts.holdings, Leg::from_bytes),
             placement: records(&placement, counts.placement, Leg::from_bytes),
             claims: records(&claims, counts.claims, Claim::from_bytes),
-        })
+        };
+        Ok((sheet, origin))
     }
 }
 
@@ -168,4 +174,28 @@ pub(crate) fn records<T>(
             from_bytes(record).expect("fields out of range are refused")
         })
         .collect()
+}
+
+#[cfg(test)]
+mod tests {
+    use super::*;
+    use crate::accounts::{fullest, leg, placed};
+    use crate::block::{account_of, BLOCK_BYTES};
+    use crate::form::Form;
+
+    #[test]
+    fn every_account_survives_a_file() {
+        let numbers = [1, u64::from(u32::MAX), 1 << 32, 1 << 32 | 4711, 1 << 63, u64::MAX - 1, u64::MAX];
+        for account in numbers {
+            for sheet in [placed(&[leg("L60c"), leg("S50c")], &[1_000_000]), fullest()] {
+                let sheet = Sheet { account, ..sheet };
+                let file = sheet.to_file().expect("a file");
+                assert!(file.chunks(BLOCK_BYTES).all(|block| account_of(block) == account), "{account}");
+                assert_eq!(Sheet::from_file(&file), Ok(sheet.clone()));
+                assert_eq!(Sheet::with_origin(&file), Ok((sheet, Origin { form: Form::New, account })));
+            }
+        }
+        let none = placed(&[leg("L60c"), leg("S50c")], &[1_000_000]);
+        assert_eq!(Sheet::with_origin(&none.to_file().expect("a file")), Ok((none, Origin::OLD)));
+    }
 }

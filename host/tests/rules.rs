@@ -10,8 +10,13 @@ use usm::accounts::{leg, placed};
 use usm::both::BOTH;
 use usm::{claim_table, leg_table, Claim, Reason, Refusal, Sheet, Table};
 
-const PAGES: [&str; 4] =
-    ["README.md", "docs/RULES.md", "docs/ARCHITECTURE.md", "host/tests/transcript/README.md"];
+const PAGES: [&str; 5] = [
+    "README.md",
+    "docs/RULES.md",
+    "docs/ARCHITECTURE.md",
+    "host/README.md",
+    "host/tests/transcript/README.md",
+];
 
 fn root() -> PathBuf {
     Path::new(env!("CARGO_MANIFEST_DIR")).join("..")

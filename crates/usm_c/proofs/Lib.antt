@@ -1,2 +1,3 @@
 pub mod Amounts
+pub mod PositionLaws
 pub mod Unique

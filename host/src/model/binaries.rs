@@ -55,7 +55,7 @@ fn month_length(year: u64, month: u64) -> u64 {
 impl Day {
     fn of(number: u64) -> Option<Day> {
         let real = u32::try_from(number).map_or(false, is_expiry);
-        real.then(|| Day { year: number / 10_000, month: number / 100 % 100, day: number % 100 })
+        real.then_some(Day { year: number / 10_000, month: number / 100 % 100, day: number % 100 })
     }
 
     /// The same month and day, so many years on; a missing 29 February is the 28th.

@@ -2,6 +2,7 @@
 //! overwritten unasked.
 
 mod names;
+mod owner;
 mod streams;
 mod write;
 
@@ -9,7 +10,7 @@ use std::ffi::OsString;
 use std::io::{self, Write};
 use std::process::ExitCode;
 
-pub use names::shown;
+pub use names::{not_empty, shown};
 pub use streams::Stream;
 pub use write::write;
 

@@ -10,6 +10,14 @@ pub fn shown(name: impl AsRef<OsStr>) -> String {
     escaped_bytes(name.as_ref().as_bytes())
 }
 
+/// Refuses the empty name, which a variable that is not set leaves behind.
+pub fn not_empty(name: impl AsRef<OsStr>) -> Result<(), String> {
+    match name.as_ref().is_empty() {
+        true => Err(String::from("the name of a file is empty; a variable may not be set")),
+        false => Ok(()),
+    }
+}
+
 #[cfg(test)]
 mod tests {
     use super::*;

@@ -14,6 +14,7 @@ mod rules;
 mod salvage;
 mod short;
 mod size;
+mod strangers;
 mod symbols;
 mod unequal;
 
@@ -43,9 +44,9 @@ pub use unequal::{unequal, Unequal};
 /// ```
 pub fn of_file(file: &[u8], refusal: &Refusal) -> String {
     let sentence = match refusal.reason() {
-        Some(Reason::WrongSize) => size::text_sentence(file).or_else(|| size::sentence(file)),
+        Some(Reason::WrongSize) => strangers::sentence(file).or_else(|| size::sentence(file)),
         Some(Reason::ChecksDiffer | Reason::BlockOutOfForm) if refusal.place == 0 => {
-            size::text_sentence(file).or_else(|| blocks::sentence(file, refusal))
+            strangers::sentence(file).or_else(|| blocks::sentence(file, refusal))
         }
         Some(Reason::ChecksDiffer | Reason::BlockOutOfForm | Reason::WrongAccount) => {
             blocks::sentence(file, refusal)

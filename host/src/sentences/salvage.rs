@@ -1,6 +1,6 @@
 //! What was dropped from a damaged file, what is left out with it, and why a file cannot be salvaged.
 
-use super::{blocks, fields, size};
+use super::{blocks, fields, size, strangers};
 use crate::block::{account_of, ACCOUNT_AT, BLOCK_BYTES, RECORDS_AT, RECORDS_IN_BLOCK};
 use crate::form::{Form, Origin};
 use crate::numbers::{count, ordinal};
@@ -118,16 +118,17 @@ fn contents(block: &[u8], reason: Reason) -> Option<(Table, usize)> {
 ///
 /// ```
 /// use usm::{salvage_file, sentences};
-/// let refusal = salvage_file(&[0; 1_100]).unwrap_err();
+/// let marks = b"USM1".repeat(275);
+/// let refusal = salvage_file(&marks).unwrap_err();
 /// assert_eq!(
-///     sentences::of_salvage(&[0; 1_100], &refusal),
+///     sentences::of_salvage(&marks, &refusal),
 ///     "nothing can be kept: all 3 blocks are damaged, torn, out of form, or have a field out of range or no account"
 /// );
 /// ```
 pub fn of_salvage(bytes: &[u8], refusal: &Refusal) -> String {
     let sentence = match refusal.reason() {
-        Some(Reason::WrongSize) => size::text_sentence(bytes).or_else(|| size::sentence(bytes)),
-        Some(Reason::ChecksDiffer) => size::text_sentence(bytes).or_else(|| Some(nothing_kept(bytes))),
+        Some(Reason::WrongSize) => strangers::sentence(bytes).or_else(|| size::sentence(bytes)),
+        Some(Reason::ChecksDiffer) => strangers::sentence(bytes).or_else(|| Some(nothing_kept(bytes))),
         Some(Reason::BlockOutOfForm) => limit_passed(bytes),
         _ => None,
     };

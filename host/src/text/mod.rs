@@ -9,22 +9,25 @@ mod parse;
 mod record;
 mod roots;
 mod show;
+mod values;
 mod words;
 
 pub use errors::{Errors, TextError, TextErrors};
 pub use escape::escaped;
-pub(crate) use escape::{escaped_bytes, line_of_bytes};
+pub(crate) use escape::{escaped_bytes, line_of_bytes, quoted};
 pub use fills::{parse_fills, show_fills};
 #[doc(hidden)]
 pub use line::date_text;
 pub(crate) use line::{
-    fill_text, leg_text, market_name, placed_text, raw_text, series_text, side_name, style_name,
+    fill_text, leg_text, market_name, placed_text, raw_text, series_text, side_name, strike_text, style_name,
 };
+pub(crate) use names::{name_of, Names, ACTIONS, MARKETS, SETTLEMENTS, SIDES, STYLES, TYPES};
 pub(crate) use parse::is_section;
 pub use parse::parse;
 pub(crate) use roots::terms_text;
 pub use roots::{parse_roots, show_roots};
-pub use show::{show, show_holdings};
+pub use show::{show, show_held, show_holdings, show_placement};
+pub(crate) use values::{date, strike, EXPIRY, STRIKE};
 #[doc(hidden)]
 pub use words::digits;
 
@@ -47,10 +50,11 @@ to three decimals, expiry, `unit` and the unit size, `underlying` and its number
 (american, european), market (listed, otc), settlement (cash, physical) unless it is not
 stated, and the word `paid` if it is marked so, as an unplaced long has to be. In the
 placement `group` and its number, or the word `unplaced`, come first. A claim is the
-group and its margin in mills (1/1000 dollar), as the checker prints them. A section may
-be left out or empty; each stands at most once, in this order. Before them a line
-`account` and its number may stand: then the sheet file is of the new form, which says
-it in each block. Blanks are free, `#` starts a comment, empty lines do not count.
+group and its margin in mills (1/1000 dollar), as the checker prints them, or in dollars
+behind a `$`, as $1,000.000. A section may be left out or empty; each stands at most once,
+in this order. Before them a line `account` and its number may stand: then the sheet file
+is of the new form, which says it in each block. Blanks are free, `#` starts a comment,
+empty lines do not count.
 ";
 
 /// The text format of a day's fills.

@@ -179,7 +179,7 @@ mod tests {
         assert_eq!(
             error_of("claims\nclaim 1 1000.00"),
             "line 2, column 9: expected a margin in whole mills, 1000000 for 1,000 dollars, \
-             from 0 to 2560000000000000000, found `1000.00`"
+             from 0 to 2560000000000000000, or in dollars behind a `$`, as $1,000.000, found `1000.00`"
         );
         assert_eq!(
             error_of("claims\nholdings\n"),
@@ -202,6 +202,18 @@ mod tests {
         );
         let errors = parse(&format!("{full}{LEG}\n{LEG}\n{LEG}")).unwrap_err();
         assert_eq!((errors.listed().len(), errors.unlisted()), (1, 0));
+        let full = format!("placement\n{}", format!("unplaced {LEG}\n").repeat(256));
+        assert_eq!(parse(&full).map(|sheet| sheet.placement.len()), Ok(256));
+        assert_eq!(
+            error_of(&format!("{full} unplaced {LEG}")),
+            "line 258, column 2: expected no more than 256 records in the placement, found `unplaced`"
+        );
+        let full = format!("claims\n{}", "claim 32 7\n".repeat(32));
+        assert_eq!(parse(&full).map(|sheet| sheet.claims.len()), Ok(32));
+        assert_eq!(
+            error_of(&format!("{full}claim 32 7\nclaim 32 7")),
+            "line 34, column 1: expected no more than 32 claims, found `claim`"
+        );
     }
 
     #[test]
@@ -291,6 +303,24 @@ mod tests {
             error_of("\u{FEFF}\u{1b}[2Jholdings"),
             "line 1, column 1: expected the section `holdings`, `placement` or `claims`, \
              found `\\u{1b}[2Jholdings`"
+        );
+        assert_eq!(
+            error_of("\u{FEFF}\u{FEFF}holdings"),
+            "line 1, column 1: expected the section `holdings`, `placement` or `claims`, \
+             found `\\u{feff}holdings`"
+        );
+    }
+
+    #[test]
+    fn columns_count_characters_and_not_bytes() {
+        let wide = "\u{3000}"; // a blank of three bytes
+        assert_eq!(
+            error_of(&format!("holdings\n{wide}{wide}long{wide}1{wide}cäll")),
+            "line 2, column 10: expected `call` or `put`, found `cäll`"
+        );
+        assert_eq!(
+            error_of(&format!("holdings\nlong{wide}1{wide}")),
+            "line 2, column 7: expected `call` or `put`, found the end of the line"
         );
     }
 }

@@ -62,9 +62,12 @@ fn beside_p11_the_later_leg_of_the_first_completed_pair_is_named() {
     assert_refused(&[leg("L50c"), leg("S60c"), leg("L50p"), leg("S60p"), leg("S50c")], 10, 7);
 }
 
+/// A leg of this notation that goes with no other.
+type Odd = fn(&str) -> Leg;
+
 #[test]
 fn the_first_leg_that_differs_is_named() {
-    let others: [(u64, fn(&str) -> Leg); 3] = [
+    let others: [(u64, Odd); 3] = [
         (7, |notation| Leg { underlying: 8, ..leg(notation) }),
         (8, |notation| Leg { style: Style::European, ..leg(notation) }),
         (9, |notation| Leg { market: Market::Otc, ..leg(notation) }),

@@ -28,6 +28,13 @@ pub fn put_script(path: &Path, text: &str) {
     set_mode(path, 0o755);
 }
 
+/// Whether this runs as root.
+#[allow(dead_code)] // most tests do not ask
+pub fn is_root() -> bool {
+    let id = Command::new("id").arg("-u").output().expect("id runs");
+    id.stdout == b"0\n"
+}
+
 pub fn set_mode(path: &Path, mode: u32) {
     fs::set_permissions(path, Permissions::from_mode(mode)).expect("permissions");
 }

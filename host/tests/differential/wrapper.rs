@@ -9,6 +9,9 @@ use usm::{Accepted, Origin, PlayCounts, RecordCounts, Refusal, Table, Tables, MO
 use crate::fills::Day;
 use crate::symbols::World;
 
+/// What a file holds and where it comes from, with the three lent tables.
+type Read = (Result<(RecordCounts, Origin), Refusal>, [[u8; 200]; 3]);
+
 /// The answers of every call, each with its lent buffers.
 #[derive(Debug, PartialEq)]
 struct Answers {
@@ -20,7 +23,7 @@ struct Answers {
     worksheet: (Result<usize, Refusal>, [u32; 8], [i64; 8]),
     check_sheet: Result<Accepted, Refusal>,
     check_file: Result<Accepted, Refusal>,
-    read_file: (Result<(RecordCounts, Origin), Refusal>, [[u8; 200]; 3]),
+    read_file: Read,
     write_file: (Result<usize, Refusal>, Vec<u8>),
     move_to_new: (Result<usize, Refusal>, Vec<u8>),
     move_to_old: (Result<usize, Refusal>, Vec<u8>),

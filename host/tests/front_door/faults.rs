@@ -17,10 +17,17 @@ fn what_is_no_file_to_read_gets_a_message_and_no_verdict() {
     let names = ["folder", "missing", "dangling", "", "/proc/self/mem"];
     let run = door.run(&[&["check"], &names[..], &["empty"]].concat());
     assert_eq!((run.status, run.out.as_str()), (2, "empty: REFUSE 1 0 0\n"), "it goes on with the others");
-    for (name, line) in names.iter().zip(run.err.lines()) {
-        assert!(line.starts_with(&format!("sheet: {name}: cannot be read: ")), "{line}");
+    let told = [
+        "sheet: folder: is a folder without a file whose name ends in .usm",
+        "sheet: missing: cannot be read: ",
+        "sheet: dangling: cannot be read: ",
+        "sheet: the name of a file is empty; ",
+        "sheet: /proc/self/mem: cannot be read: ",
+    ];
+    for (told, line) in told.iter().zip(run.err.lines()) {
+        assert!(line.starts_with(told), "{line}");
     }
-    assert!(run.err.ends_with("0 accepted, 1 refused, 5 not read\n"), "{}", run.err);
+    assert!(run.err.contains("\n0 accepted, 1 refused, 5 not read; "), "{}", run.err);
     let folder = door.shell("\"$0\" check - <folder");
     assert_eq!((folder.status, folder.out.as_str()), (2, ""));
     assert!(folder.err.starts_with("sheet: -: cannot be read: "), "{}", folder.err);

@@ -89,7 +89,7 @@ fn what_cannot_be_read_is_told_on_the_page_and_by_the_status() {
     assert_eq!(status, Some(2));
     let lines: Vec<&str> = said.lines().collect();
     assert!(lines[0].starts_with("sheet: none.usm: cannot be read: "), "{said}");
-    assert!(lines[1].starts_with("sheet: folder.usm: cannot be read: "), "{said}");
+    assert!(lines[1] == "sheet: folder.usm: is a folder without a file whose name ends in .usm", "{said}");
     assert_eq!(lines[2..], ["page.html: 1 accepted, 0 refused, 2 not read"]);
     let page = fs::read_to_string(folder.join("page.html")).expect("a page all the same");
     let pieces = pieces(body(&page));
@@ -119,8 +119,8 @@ fn a_page_that_is_there_stays_unless_forced() {
         assert_eq!((status, said), (Some(2), message));
     }
     assert_eq!(fs::read(folder.join("b.usm")).expect("it stays"), sample("claim-one-mill-short.usm"));
-    let unknown = "sheet: the command was not understood; `sheet help` shows the commands\n";
-    assert_eq!(told(&folder, &["a.usm"]), (Some(2), unknown.into()));
+    let usage = "sheet: usage: sheet page FILE.. OUT [--force]\n";
+    assert_eq!(told(&folder, &["a.usm"]), (Some(2), usage.into()));
 }
 
 #[test]

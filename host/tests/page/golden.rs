@@ -18,7 +18,7 @@ const KEPT: [&str; 5] = [
 /// The body with a line for each tag, and the version as a word.
 fn normalised(page: &str) -> String {
     let lines: String = body(page).replace('<', "\n<").replace('>', ">\n");
-    let lines = lines.replace(concat!("sheet ", env!("CARGO_PKG_VERSION")), "sheet VERSION");
+    let lines = lines.replace(&format!("sheet {}", usm::VERSION), "sheet VERSION");
     lines.lines().filter(|line| !line.trim().is_empty()).map(|line| format!("{line}\n")).collect()
 }
 

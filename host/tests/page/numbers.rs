@@ -120,7 +120,7 @@ fn numbers_in(text: &str) -> BTreeSet<String> {
 fn known(sheet: &Sheet, verdict: &Accepted) -> BTreeSet<String> {
     let mut known: BTreeSet<String> =
         ["$0", "1", "1000", "34-67752", "50"].map(String::from).into_iter().collect();
-    known.extend(numbers_in(env!("CARGO_PKG_VERSION")));
+    known.extend(numbers_in(usm::VERSION));
     known.extend([sheet.account.to_string(), grouped(verdict.groups)]);
     let mut amounts = vec![verdict.total];
     for group in 1..=verdict.groups {

@@ -6,9 +6,11 @@ use usm::{check_file, sentences, Leg, Market, Refusal, Sheet, Style};
 use crate::reader::{body, pieces, table, tables, tags, texts, Piece, Table};
 use crate::{page_of, sample, sample_names};
 
+/// Each test has a thread of its own, and a folder.
 fn read(file: &[u8]) -> (Refusal, Vec<Piece>, Vec<Table>) {
     let refusal = check_file(file).expect_err("a refused sheet");
-    let pieces = pieces(body(&page_of("page-refused", &[("sheet.usm", file)])));
+    let folder = format!("page-refused-{:?}", std::thread::current().id());
+    let pieces = pieces(body(&page_of(&folder, &[("sheet.usm", file)])));
     let tables = tables(&pieces);
     (refusal, pieces, tables)
 }
@@ -38,7 +40,7 @@ fn every_refused_sample_has_its_sentence_and_a_link_that_leads_there() {
         let sentence = sentences::of_file(&file, &refusal).replace('`', "");
         let said = texts(&pieces, "p");
         assert!(said.iter().any(|text| text.contains(&format!("Refused: {sentence}. "))), "{name}: {said:?}");
-        assert!(said.iter().any(|text| text == refusal.line().trim_end()), "{name}");
+        assert_eq!(said[0], refusal.line().trim_end(), "{name}");
         let ids: Vec<&str> = pieces
             .iter()
             .filter_map(|piece| if let Piece::Open(tag) = piece { tag.get("id") } else { None })
@@ -115,6 +117,13 @@ fn both_amounts_are_told_that_have_to_be_equal() {
     let held = [in_group(0, times(1_500, "L60c")), in_group(0, leg("S50c"))];
     let more = Sheet { holdings: held.to_vec(), ..sheet }.to_file().expect("a file");
     assert_eq!(two("Contracts of this line and side", &more), ["Held 1,500", "Placed 1"]);
+}
+
+#[test]
+fn the_account_of_a_refused_sheet_stands_beside_its_line() {
+    let sheet = Sheet { account: 4711, ..placed(&[leg("L60c"), leg("S50c")], &[0]) };
+    let (_, pieces, _) = read(&sheet.to_file().expect("a file"));
+    assert_eq!(texts(&pieces, "p")[0], "REFUSE 16 3 1, account 4711");
 }
 
 /// Of a text its sentence has said what to do, and its bytes are no blocks.

@@ -2,7 +2,7 @@
 
 use usm::accounts::fullest;
 use usm::block::{renumber, seal};
-use usm::{Claim, Sheet, BLOCK_BYTES, LONGEST_FILE};
+use usm::{Claim, Sheet, BLOCK_BYTES};
 
 use crate::sheets::accepted;
 use crate::Case;
@@ -16,8 +16,8 @@ pub fn sizes() -> Vec<Case> {
     let cases = [
         ("an empty file", Vec::new()),
         ("a torn file", file()[..1_436].to_vec()),
-        ("less than a block", vec![0; 1]),
-        ("a byte too many", vec![0; LONGEST_FILE + 1]),
+        ("less than a block", file()[..20].to_vec()),
+        ("a byte too many", [fullest().to_file().expect("a file"), vec![0]].concat()),
         ("a sheet's text", text.into()),
         ("a sheet's text with a byte order mark", format!("\u{FEFF}{text}").into()),
         ("a sheet's text, cut off in a character", [text.as_bytes(), b"# \xC3"].concat()),
@@ -28,6 +28,33 @@ pub fn sizes() -> Vec<Case> {
         ("another text", "Dear sirs,\r\n\tplease find enclosed".into()),
     ];
     cases.map(|(name, file)| (String::from(name), file)).into()
+}
+
+/// Files of other kinds, of a wrong size and of a block's.
+pub fn strangers() -> Vec<Case> {
+    let kinds: [(&str, &[u8]); 13] = [
+        ("a PDF", b"%PDF-1.4\n% of plain text\n"),
+        ("gzip", b"\x1f\x8b\x08\0\0"),
+        ("bzip2", b"BZh91AY&SY\0"),
+        ("xz", b"\xfd7zXZ\0\0\x04"),
+        ("zstd", b"\x28\xb5\x2f\xfd\x04"),
+        ("a spreadsheet", b"PK\x03\x04\x14\0"),
+        ("an old spreadsheet", b"\xd0\xcf\x11\xe0\xa1"),
+        ("a PNG", b"\x89PNG\r\n\x1a\n"),
+        ("a JPEG", b"\xff\xd8\xff\xe0\0"),
+        ("a program", b"\x7fELF\x02"),
+        ("text in UTF-16, little end first", b"\xff\xfeh\0o\0"),
+        ("text in UTF-16, big end first", b"\xfe\xff\0h\0o"),
+        ("bytes of no known kind", b"\x01\x02usm1\xff"),
+    ];
+    let padded = |start: &[u8]| [start, &vec![0; BLOCK_BYTES - start.len()]].concat();
+    let cases = kinds.into_iter().flat_map(|(name, start)| {
+        [(String::from(name), start.to_vec()), (format!("{name}, a block long"), padded(start))]
+    });
+    let zeros = (String::from("a block of zeros"), vec![0; BLOCK_BYTES]);
+    // A mark further on tells that it is a sheet file, and damaged.
+    let torn_mark = (String::from("a torn file without its first mark"), [b"\0", &file()[1..700]].concat());
+    cases.chain([zeros, torn_mark]).collect()
 }
 
 /// The same of account 7, in the new form.

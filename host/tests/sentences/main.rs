@@ -15,7 +15,10 @@ use std::collections::BTreeSet;
 use std::fs;
 use std::path::Path;
 
-use usm::{check_file, sentences, Reason, Refusal};
+use usm::{
+    check_file, move_to_new, move_to_old, sentences, Form, Origin, Reason, Refusal, Sheet, BLOCK_BYTES,
+    LONGEST_FILE,
+};
 
 /// A name for what is wrong, and a file in which it is.
 type Case = (String, Vec<u8>);
@@ -85,14 +88,49 @@ fn of_groups() -> String {
     entries.concat()
 }
 
+/// Files that are not moved: of the form that is asked for, of two accounts, and to no account.
+fn of_moves() -> String {
+    let [old, seven, eight] =
+        [0, 7, 1 << 40].map(|account| Sheet { account, ..sheets::accepted() }.to_file().expect("a file"));
+    let joined = [&seven[..BLOCK_BYTES], &eight[BLOCK_BYTES..]].concat();
+    let moved = |name: &str, file: &[u8], to: Origin| {
+        let mut out = vec![0; LONGEST_FILE];
+        let answer = match to.form {
+            Form::New => move_to_new(file, to.account, &mut out),
+            Form::Old => move_to_old(file, &mut out),
+        };
+        let refusal = answer.expect_err(name);
+        entry(&format!("move of {name}"), &refusal, &sentences::of_move(file, to, &refusal))
+    };
+    [
+        moved("the old form to the old", &old, Origin::OLD),
+        moved("the new form to the new", &seven, Origin::new(9)),
+        moved("a great account to the new form", &eight, Origin::new(9)),
+        moved("the old form to account 0", &old, Origin::new(0)),
+        moved("two joined accounts to the new form", &joined, Origin::new(9)),
+        moved("two joined accounts to account 0", &joined, Origin::new(0)),
+        moved("two joined accounts to the old form", &joined, Origin::OLD),
+        moved("a text", b"holdings\n", Origin::new(9)),
+    ]
+    .concat()
+}
+
 fn cases() -> Vec<Case> {
-    [files::sizes(), files::blocks(), fields::legs(), fields::claims(), sheets::groups(), sheets::rules()]
-        .concat()
+    [
+        files::sizes(),
+        files::strangers(),
+        files::blocks(),
+        fields::legs(),
+        fields::claims(),
+        sheets::groups(),
+        sheets::rules(),
+    ]
+    .concat()
 }
 
 #[test]
 fn every_sentence_is_that_of_the_table() {
-    let of_calls = [of_groups(), of_cash()].concat();
+    let of_calls = [of_groups(), of_cash(), of_moves()].concat();
     let of_others = [fills::sentences(), symbols::sentences(), salvage::sentences(), binaries::sentences()];
     let found = [short(), of_files(&cases()), of_calls, of_others.join("\n")].join("\n");
     let table = Path::new(env!("CARGO_MANIFEST_DIR")).join("tests/sentences/sentences.txt");

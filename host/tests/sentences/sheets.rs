@@ -42,6 +42,8 @@ pub fn groups() -> Vec<Case> {
     let no_spread = |name, legs: &[Leg]| case(name, placed(legs, &[0]));
     let unplaced = in_group(0, leg("L90p"));
     let early = Leg { expiry: 20100522, ..leg("L70c") };
+    let late = Leg { expiry: 20120121, ..early };
+    let behind_two = |odd| [leg("L60c"), leg("S50c"), odd, leg("S50p")];
     let of_9 = Leg { underlying: 9, ..in_group(2, leg("S50p")) };
     vec![
         case("a claim without a leg", placed(&[leg("L60c"), leg("S50c")], &[1_000_000, 0])),
@@ -52,6 +54,9 @@ pub fn groups() -> Vec<Case> {
         ),
         no_spread("styles", &[leg("L60c"), unplaced, Leg { style: Style::European, ..leg("S50c") }]),
         no_spread("markets", &[leg("L60c"), Leg { market: Market::Otc, ..leg("S50c") }]),
+        no_spread("underlyings behind two legs", &behind_two(Leg { underlying: 8, ..leg("L60p") })),
+        no_spread("styles behind two legs", &behind_two(Leg { style: Style::European, ..leg("L60p") })),
+        no_spread("markets behind two legs", &behind_two(Leg { market: Market::Otc, ..leg("L60p") })),
         no_spread("long and short one series", &[leg("L60c"), leg("S50c"), leg("S60c"), leg("L50p")]),
         no_spread("short and long one series", &[leg("S60c"), unplaced, leg("L60c"), leg("L60c")]),
         no_spread(
@@ -65,6 +70,11 @@ pub fn groups() -> Vec<Case> {
             &[times(2, "S60c"), early, Leg { expiry: 20110618, ..leg("L70c") }],
         ),
         no_spread("a short outlives a long before it", &[unplaced, early, leg("S60c")]),
+        no_spread("a short outlives the second of two longs", &[late, early, times(2, "S60c")]),
+        no_spread(
+            "a long that two shorts outlive",
+            &[leg("S60c"), leg("S65c"), Leg { contracts: 2, ..early }],
+        ),
     ]
 }
 
@@ -83,6 +93,7 @@ pub fn rules() -> Vec<Case> {
     other_settlement.placement[1].settlement = Settlement::Cash;
     let mut unplaced = placed(&[leg("L60c"), leg("S50c"), in_group(0, leg("S50p"))], &[1_000_000]);
     unplaced.placement.rotate_right(1);
+    let short_box = ["S50c", "L60c", "S60p", "L50p"].map(leg);
     let claims = vec![Claim { group: 1, margin: 1_000_000 }, Claim { group: 2, margin: 499_999 }];
     vec![
         case("claims out of number", misnumbered),
@@ -98,5 +109,6 @@ pub fn rules() -> Vec<Case> {
         ),
         case("a claim a mill short", Sheet { claims, ..sheet }),
         case("a European long box that claims nothing", placed(&european_box(), &[0])),
+        case("a short American box that claims nothing", placed(&short_box, &[0])),
     ]
 }

@@ -80,7 +80,7 @@ fn out_of_range() -> String {
 fn of_roots() -> String {
     let [spx, aapl]: [Root; 2] = two_roots().try_into().expect("two roots");
     let with = |name: &str, root: Root| of_list(name, &[spx, root], b"");
-    let many: Vec<Root> = (1..=257).map(|underlying| Root { underlying, ..spx }).collect();
+    let many = vec![spx; 257];
     [
         of_list("no roots", &[], b""),
         of_holdings("257 roots", &many, &[]),

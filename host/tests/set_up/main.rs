@@ -46,6 +46,8 @@ impl Machine {
         }
         put_tools(&machine.beside("tools"), &TOOLS);
         put_script(&machine.beside("clone/sheet"), "[ \"$1\" != check ] || echo ACCEPT 2 1500000");
+        let laws = machine.told_to("laws", "echo '0 passed, 0 failed'");
+        put_script(&machine.beside("clone/.ci/laws"), &laws);
         put_script(
             &machine.beside("clone/.ci/edits"),
             &machine.told_to("edits", "echo '4 passed, 0 failed'"),
@@ -122,7 +124,7 @@ fn ending(run: &Told) -> (&str, i32, &str) {
 }
 
 const NOT_BEGUN: &str = "0 passed, 1 failed";
-const PARTS: [&str; 4] = ["rt fmt --check", "rt ci", "edits ", "rt staticlib usm_c"];
+const PARTS: [&str; 5] = ["laws ", "rt fmt --check", "rt ci", "edits ", "rt staticlib usm_c"];
 
 #[test]
 fn with_all_there_nothing_is_installed_and_everything_counted() {
@@ -263,7 +265,7 @@ fn root_gets_a_browser_and_others_are_told_that_its_test_is_left_out() {
     let machine = Machine::without("browser", &["chromium"]);
     let run = machine.run("host/run-tests", &[]);
     assert!(
-        run.out.starts_with("run-tests: installing chromium\n") && !run.out.contains("left out"),
+        run.out.starts_with("run-tests: installing chromium\n") && !run.out.contains("that test is left out"),
         "{}",
         run.out
     );

@@ -165,8 +165,9 @@ fn refused_numbers_are_told_and_the_status_is_1() {
 #[test]
 fn a_wrong_word_is_told_with_what_was_expected() {
     let binary =
-        "sheet: it is said: sheet binary long|short spread BASIS-POINTS valued DATE expires DATE contracts COUNT\n";
-    let pair = "sheet: it is said: sheet pair valued DATE \
+        "sheet: usage: sheet binary long|short spread BASIS-POINTS valued DATE expires DATE contracts COUNT, \
+                  or sheet binary --table\n";
+    let pair = "sheet: usage: sheet pair valued DATE \
                 long REFERENCE spread BASIS-POINTS expires DATE contracts COUNT [paid] \
                 short REFERENCE spread BASIS-POINTS expires DATE contracts COUNT\n";
     for (command, expected, form) in [
@@ -205,10 +206,14 @@ fn a_wrong_word_is_told_with_what_was_expected() {
         let message = format!("sheet: expected {expected}\n{form}");
         assert_eq!(say(command), (2, String::new(), message), "{command}");
     }
-    let unknown = "sheet: the command was not understood; `sheet help` shows the commands\n";
-    for command in
-        ["binary long --table", "pair --table", "check --table a", "binary --table --json", "pair --json"]
-    {
-        assert_eq!(say(command), (2, String::new(), unknown.into()), "{command}");
+    for (command, said) in [
+        ("binary long --table", ""),
+        ("pair --table", "`pair` takes no `--table`; "),
+        ("binary --table --json", "`binary` takes no `--json`; "),
+        ("pair --json", "`pair` takes no `--json`; "),
+    ] {
+        let form = if command.starts_with("pair") { pair } else { binary };
+        let message = form.replace("sheet: ", &format!("sheet: {said}"));
+        assert_eq!(say(command), (2, String::new(), message), "{command}");
     }
 }

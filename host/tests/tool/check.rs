@@ -21,14 +21,15 @@ fn one_file_has_its_line_and_a_sentence() {
     let [good, short] = files();
     fs::write(folder.join("good.usm"), good).expect("a file");
     fs::write(folder.join("short.usm"), short).expect("a file");
-    let sentence = "good.usm: accepted: 1 group, total margin $1,000.000 (1000000 mills)\n";
+    let sentence =
+        "good.usm: no account (old form): accepted: 1 group, total margin $1,000.000 (1000000 mills)\n";
     assert_eq!(
         told(run(&folder, &["check", "good.usm"], b"")),
         (0, "ACCEPT 1 1000000\n".into(), sentence.into())
     );
     assert_eq!(
         told(run(&folder, &["check", "short.usm"], b"")),
-        (1, "REFUSE 16 3 1\n".into(), format!("short.usm: refused: {SHORT}\n"))
+        (1, "REFUSE 16 3 1\n".into(), format!("short.usm: no account (old form): refused: {SHORT}\n"))
     );
 }
 
@@ -38,7 +39,8 @@ fn the_work_is_told_where_it_is_asked_for() {
     let [good, short] = files();
     fs::write(folder.join("good.usm"), good).expect("a file");
     fs::write(folder.join("short.usm"), short).expect("a file");
-    let sentence = "good.usm: accepted: 1 group, total margin $1,000.000 (1000000 mills)\n\
+    let sentence =
+        "good.usm: no account (old form): accepted: 1 group, total margin $1,000.000 (1000000 mills)\n\
                     good.usm: 4 intrinsic values worked out\n";
     assert_eq!(
         told(run(&folder, &["check", "--work", "good.usm"], b"")),
@@ -51,15 +53,20 @@ fn the_work_is_told_where_it_is_asked_for() {
     assert_eq!(lines, format!("{accepted}short.usm: REFUSE 16 3 1\n{accepted}"));
     let sentences: Vec<&str> =
         sentences.lines().filter(|line| !line.starts_with("sheet: none.usm")).collect();
-    let refused = format!("short.usm: refused: {SHORT}");
+    let refused = format!("short.usm: no account (old form): refused: {SHORT}");
+    let accepted =
+        "good.usm: no account (old form): accepted: 1 group, total margin $1,000.000 (1000000 mills)";
     assert_eq!(
         sentences,
         [
+            accepted,
             "good.usm: 4 intrinsic values worked out",
             refused.as_str(),
             "short.usm: 0 intrinsic values worked out",
+            accepted,
             "good.usm: 4 intrinsic values worked out",
-            "2 accepted, 1 refused, 1 not read; 8 intrinsic values worked out",
+            "2 accepted, 1 refused, 1 not read; total margin of all accepted $2,000.000 (2000000 mills); \
+             8 intrinsic values worked out",
         ]
     );
     // It is always among the keys of JSON.
@@ -67,12 +74,6 @@ fn the_work_is_told_where_it_is_asked_for() {
         .map(|arguments| told(run(&folder, arguments, b"")));
     assert_eq!(plain, asked);
     assert!(plain.1.contains("\"work\":4,"), "{}", plain.1);
-    let unknown = "sheet: the command was not understood; `sheet help` shows the commands\n";
-    for arguments in
-        [&["show", "good.usm", "--work"][..], &["check", "--work"], &["binary", "--table", "--work"]]
-    {
-        assert_eq!(told(run(&folder, arguments, b"")), (2, String::new(), unknown.into()), "{arguments:?}");
-    }
 }
 
 #[test]
@@ -90,10 +91,17 @@ fn many_files_have_a_line_each_and_a_summary() {
     assert_eq!(lines.lines().count(), 2_000);
     assert_eq!(lines.lines().nth(6), Some("6.usm: ACCEPT 1 1000000"));
     assert_eq!(lines.lines().nth(1_007), Some("1007.usm: REFUSE 16 3 1"));
-    assert_eq!(
-        sentences,
-        format!("7.usm: refused: {SHORT}\n1007.usm: refused: {SHORT}\n1,998 accepted, 2 refused\n")
-    );
+    assert_eq!(sentences.lines().count(), 2_001);
+    let accepted = "6.usm: no account (old form): accepted: 1 group, total margin $1,000.000 (1000000 mills)";
+    assert_eq!(sentences.lines().nth(6), Some(accepted));
+    let summary = "1,998 accepted, 2 refused; total margin of all accepted $1,998,000.000 (1998000000 mills)";
+    assert_eq!(sentences.lines().last(), Some(summary));
+    // Of those that are accepted nothing but their number is told.
+    arguments.push("--quiet");
+    let (status, lines, sentences) = told(run(&folder, &arguments, b""));
+    assert_eq!((status, lines.as_str()), (1, "7.usm: REFUSE 16 3 1\n1007.usm: REFUSE 16 3 1\n"));
+    let refused = |name: &str| format!("{name}: no account (old form): refused: {SHORT}\n");
+    assert_eq!(sentences, format!("{}{}{summary}\n", refused("7.usm"), refused("1007.usm")));
 }
 
 #[test]
@@ -106,8 +114,22 @@ fn what_cannot_be_read_is_2_and_the_others_are_checked() {
     assert_eq!((status, lines.as_str()), (2, "good.usm: ACCEPT 1 1000000\n"));
     let sentences: Vec<&str> = sentences.lines().collect();
     assert!(sentences[0].starts_with("sheet: none.usm: cannot be read: "), "{sentences:?}");
-    assert!(sentences[1].starts_with("sheet: dir.usm: cannot be read: "), "{sentences:?}");
-    assert_eq!(sentences[2..], ["1 accepted, 0 refused, 2 not read"]);
+    assert_eq!(sentences[1], "sheet: dir.usm: is a folder without a file whose name ends in .usm");
+    let summary =
+        "1 accepted, 0 refused, 2 not read; total margin of all accepted $1,000.000 (1000000 mills)";
+    assert_eq!(sentences[3..], [summary]);
+    // As JSON both are told of on standard error, too.
+    let (status, objects, sentences) =
+        told(run(&folder, &["check", "--json", "none.usm", "dir.usm", "good.usm"], b""));
+    assert_eq!((status, objects.lines().count()), (2, 3));
+    let sentences: Vec<&str> = sentences.lines().collect();
+    assert!(sentences[0].starts_with("sheet: none.usm: cannot be read: "), "{sentences:?}");
+    assert_eq!(
+        sentences[1..],
+        ["sheet: dir.usm: is a folder without a file whose name ends in .usm", summary]
+    );
+    let (status, objects, sentence) = told(run(&folder, &["check", "--json", "none.usm"], b""));
+    assert_eq!((status, objects.lines().count(), sentence.lines().count()), (2, 1, 1));
 }
 
 #[test]

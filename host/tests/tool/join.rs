@@ -172,7 +172,7 @@ fn what_cannot_be_done_is_told_and_writes_nothing() {
     let cases: &[(&[&str], i32, &str)] = &[
         (&["in.usm", "2", "2", "out"], 2, "sheet: two groups are joined, and group 2 is named twice\n"),
         (&["in.usm", "one", "2", "out"], 2, "sheet: expected the number of a group, found `one`\n"),
-        (&["in.usm", "1", "", "out"], 2, "sheet: expected the number of a group, found ``\n"),
+        (&["in.usm", "1", "", "out"], 2, "sheet: expected the number of a group, found an empty word\n"),
         (
             &["-", "1", "2", "out"],
             2,
@@ -182,7 +182,7 @@ fn what_cannot_be_done_is_told_and_writes_nothing() {
         (
             &["in.usm", "1", "3", "./in.usm", "--force"],
             2,
-            "sheet: in.usm: is joined; what comes out needs another name\n",
+            "sheet: in.usm: cannot be written over itself; name another file for OUT\n",
         ),
         (&["in.usm", "1", "3", "kept.usm"], 2, "sheet: kept.usm: is there already; --force overwrites it\n"),
     ];

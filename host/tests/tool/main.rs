@@ -4,19 +4,28 @@
 
 #[path = "../common/mod.rs"]
 mod common;
+#[path = "../common/scripts.rs"]
+#[allow(dead_code)] // for the tests of scripts
+mod scripts;
 
 mod binaries;
 mod check;
+mod claims;
+mod csv;
+mod files;
 mod full;
 mod groups;
 mod join;
 mod json;
+mod kept;
 mod make;
 mod moves;
+mod page;
 mod paid;
 mod play;
 mod salvage;
 mod symbols;
+mod usage;
 
 use std::ffi::OsStr;
 use std::io::Write;
@@ -74,41 +83,6 @@ fn names_in(folder: &Path) -> Vec<String> {
 /// What a page or the help sets apart by an indent, to be copied.
 fn example(text: &str, indent: &str) -> String {
     text.lines().filter_map(|line| line.strip_prefix(indent)).map(|line| format!("{line}\n")).collect()
-}
-
-#[test]
-fn commands_not_understood_are_told_of_the_help() {
-    let folder = folder("tool-usage");
-    for arguments in [
-        &[][..],
-        &["make", "a"],
-        &["check"],
-        &["show", "a", "b"],
-        &["check", "a", "--force"],
-        &["show", "a", "--json"],
-        &["worksheet", "a"],
-        &["join", "a", "1", "2"],
-        &["import", "a", "b"],
-        &["export", "a", "b", "c", "--json"],
-        &["frob", "a"],
-    ] {
-        let message = "sheet: the command was not understood; `sheet help` shows the commands\n";
-        assert_eq!(told(run(&folder, arguments, b"")), (2, String::new(), message.into()), "{arguments:?}");
-    }
-    let message = "sheet: there is no option `--frob`; `sheet help` shows the commands\n";
-    assert_eq!(told(run(&folder, &["check", "--frob", "a"], b"")), (2, String::new(), message.into()));
-}
-
-#[test]
-fn help_and_version_are_printed() {
-    let folder = folder("tool-help");
-    for arguments in [&["help"][..], &["-h"], &["--help"], &["make", "--help"]] {
-        let (status, help, errors) = told(run(&folder, arguments, b""));
-        assert_eq!((status, errors.as_str()), (0, ""));
-        assert!(help.contains("usage:") && help.contains("american"), "{help}");
-    }
-    let version = format!("sheet {}\n", usm::VERSION);
-    assert_eq!(told(run(&folder, &["--version"], b"")), (0, version, String::new()));
 }
 
 #[test]

@@ -53,7 +53,7 @@ fn a_write_that_fails_loses_nothing() {
     let (status, _, message) = told(run(&folder, &["make", "p1.txt", "./p1.txt", "--force"], b""));
     assert_eq!(
         (status, message.as_str()),
-        (2, "sheet: p1.txt: is the text; the sheet file needs another name\n")
+        (2, "sheet: p1.txt: cannot be written over itself; name another file for OUT\n")
     );
     assert_eq!(fs::read(folder.join("p1.txt")).expect("kept"), VERTICAL.as_bytes());
     assert_eq!(names_in(&folder), ["out", "p1.txt"]);
@@ -116,7 +116,7 @@ fn every_error_of_a_text_is_told() {
         "sheet: -: line 3, column 15: {strike}\n\
          sheet: -: line 6, column 23: {strike}\n\
          sheet: -: line 9, column 11: expected a margin in whole mills, 1000000 for 1,000 dollars, \
-         from 0 to 2560000000000000000, found `\\u{{1b}}[2J`\n"
+         from 0 to 2560000000000000000, or in dollars behind a `$`, as $1,000.000, found `\\u{{1b}}[2J`\n"
     );
     assert_eq!(told(run(&folder, &["make", "-", "out.usm"], text.as_bytes())), (2, String::new(), message));
     let text = format!("holdings\n{}", "short 1\n".repeat(50));
@@ -130,12 +130,46 @@ fn every_error_of_a_text_is_told() {
 fn what_is_no_sheet_file_cannot_be_shown() {
     let folder = folder("tool-show");
     let (status, shown, message) = told(run(&folder, &["show", "-"], &[0; 512]));
-    let mark = "sheet: -: refusal 3: the 1st of 1 block is out of form: \
-                it does not begin with the mark `USM1` or `USM2`\n";
+    let mark = "sheet: -: refusal 3: this is no sheet file, which begins with the mark `USM1` or `USM2`; \
+                it has nothing but zero bytes\n";
     assert_eq!((status, shown.as_str(), message.as_str()), (2, "", mark));
     let (status, _, message) = told(run(&folder, &["show", "missing.usm"], b""));
     assert_eq!(status, 2);
     assert!(message.starts_with("sheet: missing.usm: cannot be read: "), "{message}");
+}
+
+#[test]
+fn a_sheet_file_is_told_to_be_shown() {
+    let folder = folder("tool-make-file");
+    for text in [VERTICAL, &format!("account 7\n{VERTICAL}")] {
+        let file = run(&folder, &["make", "-", "-"], text.as_bytes()).stdout;
+        let shown = "sheet: -: is a sheet file, and a text is expected; `sheet show FILE` prints its text\n";
+        for arguments in [&["make", "-", "out"][..], &["play", "-", "fills", "out"]] {
+            assert_eq!(told(run(&folder, arguments, &file)), (2, String::new(), shown.into()));
+        }
+    }
+    assert!(names_in(&folder).is_empty());
+}
+
+#[test]
+fn behind_two_dashes_every_word_is_a_name() {
+    let folder = folder("tool-dashes");
+    fs::write(folder.join("--force"), VERTICAL).expect("a text");
+    fs::write(folder.join("--json"), "mine").expect("a file");
+    let kept = "sheet: --json: is there already; --force overwrites it\n";
+    assert_eq!(
+        told(run(&folder, &["make", "--", "--force", "--json"], b"")),
+        (2, String::new(), kept.into())
+    );
+    assert_eq!(
+        told(run(&folder, &["make", "--", "--force", "--work"], b"")),
+        (0, String::new(), String::new())
+    );
+    assert_eq!(names_in(&folder), ["--force", "--json", "--work"]);
+    let (status, lines, _) = told(run(&folder, &["check", "--", "--work", "--work"], b""));
+    assert_eq!((status, lines.as_str()), (0, "--work: ACCEPT 1 1000000\n--work: ACCEPT 1 1000000\n"));
+    let again = told(run(&folder, &["--", "show", "--", "--work"], b""));
+    assert_eq!(again.2, "sheet: usage: sheet show FILE [--holdings]\n", "only the first is no word");
 }
 
 #[test]

@@ -35,6 +35,41 @@ fn a_file_is_moved_there_and_back() {
 }
 
 #[test]
+fn an_account_is_moved_whole() {
+    let folder = folder("tool-great-accounts");
+    let old = run(&folder, &["make", "-", "-"], VERTICAL.as_bytes()).stdout;
+    fs::write(folder.join("old.usm"), &old).expect("a file");
+    for account in ["1", "4294967296", "4294972007", "9223372036854775808", "18446744073709551615"] {
+        let moved = run(&folder, &["to-new", "old.usm", account, "-"], b"").stdout;
+        let made =
+            run(&folder, &["make", "-", "-"], format!("account {account}\n{VERTICAL}").as_bytes()).stdout;
+        assert_eq!(moved, made, "{account}");
+        let (status, shown, _) = told(run(&folder, &["show", "-"], &moved));
+        assert_eq!((status, shown.lines().next()), (0, Some(format!("account {account}").as_str())));
+    }
+    for account in ["18446744073709551616", "+1", "1e3", "1,000"] {
+        let number = format!("sheet: expected the number of an account, found `{account}`\n");
+        let told = told(run(&folder, &["to-new", "old.usm", account, "out.usm"], b""));
+        assert_eq!(told, (2, String::new(), number));
+    }
+}
+
+#[test]
+fn two_joined_accounts_are_told_as_two() {
+    let folder = folder("tool-joined-accounts");
+    let of = |account: &str| {
+        run(&folder, &["make", "-", "-"], format!("account {account}\n{VERTICAL}").as_bytes()).stdout
+    };
+    let joined = [&of("7")[..512], &of("8")[512..]].concat();
+    let message =
+        "sheet: -: refusal 20: the 2nd of 3 blocks is of account 8, and the first block of account 7: \
+                   two accounts are joined\n";
+    for arguments in [&["to-new", "-", "9", "out.usm"][..], &["to-old", "-", "out.usm"]] {
+        assert_eq!(told(run(&folder, arguments, &joined)), (2, String::new(), message.into()));
+    }
+}
+
+#[test]
 fn what_cannot_be_moved_writes_nothing() {
     let folder = folder("tool-unmoved");
     let old = run(&folder, &["make", "-", "-"], VERTICAL.as_bytes()).stdout;
@@ -46,9 +81,9 @@ fn what_cannot_be_moved_writes_nothing() {
         (&["to-new", "new.usm", "4711", "out"][..], "new.usm: refusal 3: the file is of the new form already, of account 4711"),
         (&["to-old", "old.usm", "out"], "old.usm: refusal 3: the file is of the old form already"),
         (&["to-new", "old.usm", "0", "out"], "old.usm: refusal 20: the account number to be written is 0; accounts are numbered from 1"),
-        (&["to-new", "old.usm", "-1", "out"], "there is no option `-1`; `sheet help` shows the commands"),
+        (&["to-new", "old.usm", "-1", "out"], "there is no option `-1`; usage: sheet to-new FILE ACCOUNT OUT [--force]"),
         (&["to-new", "old.usm", "mine", "out"], "expected the number of an account, found `mine`"),
-        (&["to-old", "new.usm", "./new.usm"], "new.usm: is moved; what comes out needs another name"),
+        (&["to-old", "new.usm", "./new.usm"], "new.usm: cannot be written over itself; name another file for OUT"),
         (
             &["to-old", "torn.usm", "out"],
             "torn.usm: refusal 1: the file has 700 bytes, which is not whole blocks of 512 (1 block and 188 bytes); part of it may be lost",

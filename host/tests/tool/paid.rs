@@ -40,7 +40,7 @@ fn what_is_there_stays_and_what_is_no_sheet_is_told() {
         told(run(&folder, &["mark-paid", "old.usm", "out.usm"], b"")),
         (2, String::new(), kept.into())
     );
-    let same = "sheet: old.usm: is marked; what comes out needs another name\n";
+    let same = "sheet: old.usm: cannot be written over itself; name another file for OUT\n";
     assert_eq!(
         told(run(&folder, &["mark-paid", "old.usm", "old.usm"], b"")),
         (2, String::new(), same.into())

@@ -52,6 +52,38 @@ fn a_sheets_placement_and_claims_are_left_out() {
 }
 
 #[test]
+fn what_is_left_out_is_told_whichever_it_is() {
+    let folder = folder("tool-play-left-out");
+    fs::write(folder.join("fills.txt"), "fills\n").expect("a text");
+    let left_out = "-: its placement and its claims are left out\n";
+    let summary = "0 played, 0 refused; the holdings have 1 record\n";
+    let held = format!("holdings\n  long  3 {LEG}\n");
+    for (rest, said) in [
+        ("", String::from(summary)),
+        (&*format!("placement\n group 1 long 3 {LEG}\n"), format!("{left_out}{summary}")),
+        ("claims\n claim 1 0\n", format!("{left_out}{summary}")),
+    ] {
+        let played = told(run(&folder, &["play", "-", "fills.txt", "-"], format!("{held}{rest}").as_bytes()));
+        assert_eq!(played, (0, held.clone(), said), "{rest}");
+    }
+}
+
+#[test]
+fn the_account_goes_with_the_holdings() {
+    let folder = folder("tool-play-account");
+    fs::write(folder.join("fills.txt"), format!("fills\n open long 1 {LEG}\n")).expect("a text");
+    let held = |contracts| format!("account {}\n\nholdings\n  long  {contracts} {LEG}\n", u64::MAX);
+    let played = told(run(&folder, &["play", "-", "fills.txt", "-"], held(3).as_bytes()));
+    assert_eq!(played, (0, held(4), "1 played, 0 refused; the holdings have 1 record\n".into()));
+    // A sheet file says it, too; a CSV does not, and that is told.
+    assert_eq!(told(run(&folder, &["play", "-", "fills.txt", "out.usm"], held(3).as_bytes())).0, 0);
+    assert_eq!(told(run(&folder, &["show", "--holdings", "out.usm"], b"")).1, held(4));
+    let (status, _, said) = told(run(&folder, &["play", "-", "fills.txt", "out.csv"], held(3).as_bytes()));
+    let account = "-: its account, 18446744073709551615, is left out: a CSV does not say it\n";
+    assert_eq!((status, said), (0, format!("{account}1 played, 0 refused; the holdings have 1 record\n")));
+}
+
+#[test]
 fn what_cannot_be_played_writes_nothing() {
     let folder = folder("tool-play-wrong");
     let held = format!("holdings\n long 60000 {LEG}\n long 60000 {LEG}\n");
@@ -64,7 +96,7 @@ fn what_cannot_be_played_writes_nothing() {
     );
     let word = "sheet: bad.txt: line 2, column 2: expected `open` or `close`, found `opened`\n";
     let both = "sheet: holdings and fills cannot both be standard input\n";
-    let same = "sheet: fills.txt: is played; what comes out needs another name\n";
+    let same = "sheet: fills.txt: cannot be written over itself; name another file for OUT\n";
     for (arguments, message) in [
         (["play", "held.txt", "fills.txt", "out.txt"], past.as_str()),
         (["play", "held.txt", "bad.txt", "out.txt"], word),

@@ -37,7 +37,7 @@ bad.usm: the 4th of 5 blocks was dropped: its check sums differ (2)
 bad.usm: left out: 5 records of the placement
 bad.usm: 1 of 5 blocks dropped, 4 kept
 out.usm: a salvaged sheet is not accepted by that; its verdict: REFUSE 11 2 1
-out.usm: refused: group 1 has 800 long call units and 700 short call units; they must be equal (a leg's units are its contracts times its unit size)
+out.usm: account 4711 (new form): refused: group 1 has 800 long call units and 700 short call units; they must be equal (a leg's units are its contracts times its unit size)
 ";
     let made = told(run(&folder, &["salvage", "bad.usm", "out.usm"], b""));
     assert_eq!(made, (1, String::new(), sentences.into()));
@@ -54,7 +54,7 @@ out.usm: refused: group 1 has 800 long call units and 700 short call units; they
 #[test]
 fn a_file_that_lost_nothing_is_0() {
     let accepted = "-: a salvaged sheet is not accepted by that; its verdict: ACCEPT 1 10000000\n\
-                    -: accepted: 1 group, total margin $10,000.000 (10000000 mills)\n";
+                    -: account 4711 (new form): accepted: 1 group, total margin $10,000.000 (10000000 mills)\n";
     let as_it_was = format!("-: nothing was dropped; the file comes out as it was\n{accepted}");
     assert_eq!(salvaged(&file(), 0), (file(), as_it_was));
     // Claims at the head, as a tool may have put them.
@@ -103,7 +103,8 @@ fn what_cannot_be_salvaged_writes_nothing() {
         ("empty", vec![]),
         ("long", vec![0; 20_000]),
         ("bad", damaged),
-        ("scrap", vec![0; 100]),
+        ("scrap", file()[..100].to_vec()),
+        ("zeros", vec![0; 100]),
         ("text", b"holdings\n".to_vec()),
         ("copies", claims.repeat(33)),
     ] {
@@ -111,18 +112,19 @@ fn what_cannot_be_salvaged_writes_nothing() {
     }
     for (name, message) in [
         ("empty", "refusal 1: the file is empty; a sheet file has 1 to 39 blocks of 512 bytes"),
-        ("long", "refusal 1: the file is longer than 19,968 bytes, the most that a sheet file has (39 blocks of 512 bytes)"),
+        ("long", "refusal 1: this is no sheet file, which begins with the mark `USM1` or `USM2`; it has nothing but zero bytes"),
         ("bad", "refusal 2: nothing can be kept: all 5 blocks are damaged, torn, out of form, or have a field out of range or no account"),
         ("scrap", "refusal 2: nothing can be kept: the file has 100 bytes, less than one block of 512"),
+        ("zeros", "refusal 2: this is no sheet file, which begins with the mark `USM1` or `USM2`; it has nothing but zero bytes"),
         ("text", "refusal 2: this is the text of a sheet and not yet a sheet file: first make one of it, `sheet make TEXT OUT`"),
         ("copies", "refusal 3: the blocks that can be kept have 33 claims, more than 32; blocks of two files may be joined, or one may stand there twice"),
     ] {
         let made = told(run(&folder, &["salvage", name, "out.usm"], b""));
         assert_eq!(made, (2, String::new(), format!("sheet: {name}: {message}\n")));
     }
-    let same = "sheet: bad: is salvaged; what comes out needs another name\n";
+    let same = "sheet: bad: cannot be written over itself; name another file for OUT\n";
     assert_eq!(told(run(&folder, &["salvage", "bad", "./bad"], b"")), (2, String::new(), same.into()));
     let (status, _, message) = told(run(&folder, &["salvage", "none.usm", "out.usm"], b""));
     assert!(status == 2 && message.starts_with("sheet: none.usm: cannot be read"), "{message}");
-    assert_eq!(names_in(&folder), ["bad", "copies", "empty", "long", "scrap", "text"]);
+    assert_eq!(names_in(&folder), ["bad", "copies", "empty", "long", "scrap", "text", "zeros"]);
 }

@@ -201,7 +201,7 @@ fn what_is_there_stays_and_standard_input_is_read_once() {
         fs::write(folder.join(name), text).expect("a file");
     }
     let kept = "out.txt: is there already; --force overwrites it";
-    let again = |name: &str| format!("{name}: is read; what comes out needs another name");
+    let again = |name: &str| format!("{name}: cannot be written over itself; name another file for OUT");
     for (arguments, message) in [
         (["import", "roots.txt", "list.txt", "out.txt"], kept.into()),
         (["export", "roots.txt", "held.txt", "out.txt"], kept.into()),
@@ -234,7 +234,7 @@ fn what_is_no_sheet_is_told() {
         (b"holdings\n\xFF\n", "line 2: expected text in UTF-8"),
         (
             &[0; 512],
-            "refusal 3: the 1st of 1 block is out of form: it does not begin with the mark `USM1` or `USM2`",
+            "refusal 3: this is no sheet file, which begins with the mark `USM1` or `USM2`; it has nothing but zero bytes",
         ),
     ] {
         let told = told(run(&folder, &["export", "roots.txt", "-", "-"], bytes));

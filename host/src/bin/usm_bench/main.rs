@@ -67,7 +67,7 @@ fn timed(mut row: Row) -> (Measured, Option<&'static str>) {
         ratios.high,
         work_beside(row.work, library.middle)
     );
-    let slower = (ratios.middle > 1.0).then(|| row.name);
+    let slower = (ratios.middle > 1.0).then_some(row.name);
     (measured, slower)
 }
 

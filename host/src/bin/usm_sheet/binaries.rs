@@ -14,19 +14,12 @@ use usm::{
 use crate::output::print;
 use crate::words::Words;
 
-const BINARY_FORM: &str =
-    "sheet binary long|short spread BASIS-POINTS valued DATE expires DATE contracts COUNT";
-
-const PAIR_FORM: &str = "sheet pair valued DATE \
-     long REFERENCE spread BASIS-POINTS expires DATE contracts COUNT [paid] \
-     short REFERENCE spread BASIS-POINTS expires DATE contracts COUNT";
-
 /// What a contract settles at, in mills.
 const SETTLEMENT_VALUE: i64 = 1_000_000;
 
 /// The margin of one position.
 pub fn binary(words: &[OsString]) -> Result<ExitCode, String> {
-    let mut words = Words::of(words, BINARY_FORM);
+    let mut words = Words::of(words, "binary");
     let side = words.value("`long` or `short`", |word| {
         [Side::Long, Side::Short].into_iter().find(|side| side_name(*side) == word)
     })?;
@@ -47,7 +40,7 @@ pub fn binary(words: &[OsString]) -> Result<ExitCode, String> {
 
 /// The margin of a long and a short beside each other.
 pub fn pair(words: &[OsString]) -> Result<ExitCode, String> {
-    let mut words = Words::of(words, PAIR_FORM);
+    let mut words = Words::of(words, "pair");
     let valuation = words.date("valued")?;
     let binary = position("long", &mut words)?;
     let long = LongBinary { binary, paid: words.flag("paid") };

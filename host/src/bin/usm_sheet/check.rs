@@ -3,62 +3,24 @@
 use std::ffi::{OsStr, OsString};
 use std::process::ExitCode;
 
-use usm::numbers::{count, dollars, grouped};
+use usm::numbers::{amount, count, grouped};
 use usm::program::shown;
-use usm::{check_file, sentences, Accepted, Refusal, LONGEST_FILE};
+use usm::LONGEST_FILE;
 
+use crate::files::{are_named, asked, Asked};
+use crate::found::{Found, Judged};
 use crate::input::read_into;
-use crate::json;
+use crate::json::Object;
 use crate::output::Output;
 
-/// What became of one file.
-pub enum Found {
-    Accepted(Accepted),
-    Refused(Refusal, String),
-    /// With the message that tells why it could not be read.
-    Unread(String),
-}
-
-impl Found {
-    /// The verdict on a file's bytes.
-    pub fn of(file: &[u8]) -> Found {
-        match check_file(file) {
-            Ok(accepted) => Found::Accepted(accepted),
-            Err(refusal) => Found::Refused(refusal, sentences::of_file(file, &refusal)),
-        }
-    }
-
-    /// The line for programs, which a file that could not be read does not have.
-    pub fn line(&self) -> String {
-        match self {
-            Found::Accepted(accepted) => accepted.line(),
-            Found::Refused(refusal, _) => refusal.line(),
-            Found::Unread(_) => String::new(),
-        }
-    }
-
-    /// The same for people.
-    pub fn sentence(&self) -> String {
-        match self {
-            Found::Accepted(Accepted { groups, total, .. }) => {
-                let groups = if *groups == 1 { String::from("1 group") } else { format!("{groups} groups") };
-                format!("accepted: {groups}, total margin {} ({total} mills)", dollars(*total))
-            }
-            Found::Refused(_, sentence) => format!("refused: {sentence}"),
-            Found::Unread(message) => message.clone(),
-        }
-    }
-}
-
-impl Found {
-    /// How many intrinsic values were worked out for a verdict; a refusal answers with none.
-    pub fn work(&self) -> Option<u64> {
-        match self {
-            Found::Accepted(accepted) => Some(accepted.work),
-            Found::Refused(..) => Some(0),
-            Found::Unread(_) => None,
-        }
-    }
+/// How the verdicts are told.
+pub struct Telling {
+    /// As objects in place of lines and sentences.
+    pub json: bool,
+    /// With the work that each was.
+    pub work: bool,
+    /// Nothing of files that are accepted.
+    pub quiet: bool,
 }
 
 /// How many files were accepted, refused and not read.
@@ -68,58 +30,69 @@ pub struct Tally {
     refused: usize,
     unread: usize,
     work: u64,
+    /// Of all that are accepted; many great ones pass what one sheet may have.
+    total: i128,
 }
 
 /// Checks every file, also behind one that could not be read.
-pub fn check(names: &[OsString], json: bool, work: bool) -> Result<ExitCode, String> {
+pub fn check(names: &[OsString], lists: &[OsString], telling: &Telling) -> Result<ExitCode, String> {
+    let (several, asked) = (are_named(names, lists), asked(names, lists)?);
     let mut output = Output::new();
     let mut tally = Tally::default();
     let mut file = Vec::with_capacity(LONGEST_FILE + 1);
-    for (row, name) in names.iter().enumerate() {
-        let found = judge(&mut file, name, &names[..row]);
+    for asked in &asked {
+        let (name, found) = judge(&mut file, asked);
         tally.count(&found);
-        if json {
-            output.print(json::object(name, &found).as_bytes())?;
-        } else {
-            report(&mut output, name, names.len() > 1, &found)?;
-            if let (true, Some(values)) = (work, found.work()) {
-                output.tell(&format!("{}: {}", shown(name), worked_out(values)))?;
-            }
-        }
-        if let Found::Unread(message) = &found {
-            output.tell(&format!("sheet: {message}"))?;
-        }
+        report(&mut output, name, several, &Judged::of(found, &file), telling)?;
     }
-    if names.len() > 1 {
-        let worked_out = if work { format!("; {}", worked_out(tally.work)) } else { String::new() };
-        output.tell(&format!("{}{worked_out}", tally.summary()))?;
+    if several {
+        let total = format!("; total margin of all accepted {}", amount(tally.total));
+        let worked_out = if telling.work { format!("; {}", worked_out(tally.work)) } else { String::new() };
+        output.tell(&format!("{}{total}{worked_out}", tally.summary()))?;
     }
     output.end()?;
     Ok(ExitCode::from(tally.status()))
 }
 
-/// The verdict on a file, whose bytes are in the buffer then.
-pub fn judge(file: &mut Vec<u8>, name: &OsStr, before: &[OsString]) -> Found {
-    if name == "-" && before.iter().any(|earlier| earlier == "-") {
-        return Found::Unread(String::from("-: standard input can be read only once"));
+/// The verdict on what is asked for; the bytes of a file are in the buffer then.
+pub fn judge<'a>(file: &mut Vec<u8>, asked: &'a Asked) -> (&'a OsStr, Found) {
+    match asked {
+        Asked::Nothing(name, message) => (name, Found::Unread(message.clone())),
+        Asked::File(name) => match read_into(file, name, LONGEST_FILE) {
+            Err(message) => (name, Found::Unread(message)),
+            Ok(()) => (name, Found::of(file)),
+        },
     }
-    if let Err(message) = read_into(file, name, LONGEST_FILE) {
-        return Found::Unread(message);
-    }
-    Found::of(file)
 }
 
-/// The line and the sentence of one file. Of several, those that are accepted need no sentence.
-fn report(output: &mut Output, name: &OsStr, several: bool, found: &Found) -> Result<(), String> {
-    let name = shown(name);
-    let before = if several { format!("{name}: ") } else { String::new() };
+/// The line and the sentence of one file, or its object; and why one was not read.
+fn report(
+    output: &mut Output,
+    name: &OsStr,
+    several: bool,
+    judged: &Judged,
+    telling: &Telling,
+) -> Result<(), String> {
+    let found = &judged.found;
     match found {
-        Found::Unread(_) => return Ok(()),
-        _ => output.print(format!("{before}{}", found.line()).as_bytes())?,
+        Found::Accepted(_) if telling.quiet => return Ok(()),
+        _ if telling.json => {
+            let object = Object::of(name).origin(judged.origin).verdict(judged);
+            output.print(object.line().as_bytes())?;
+        }
+        Found::Unread(_) => {}
+        _ => {
+            let before = if several { format!("{}: ", shown(name)) } else { String::new() };
+            output.print(format!("{before}{}", found.line()).as_bytes())?;
+            output.tell(&format!("{}: {}", shown(name), judged.sentence()))?;
+        }
     }
-    match found {
-        Found::Accepted(_) if several => Ok(()),
-        _ => output.tell(&format!("{name}: {}", found.sentence())),
+    match (found, found.work()) {
+        (Found::Unread(message), _) => output.tell(&format!("sheet: {message}")),
+        (_, Some(values)) if telling.work && !telling.json => {
+            output.tell(&format!("{}: {}", shown(name), worked_out(values)))
+        }
+        _ => Ok(()),
     }
 }
 
@@ -131,7 +104,10 @@ impl Tally {
     pub fn count(&mut self, found: &Found) {
         self.work += found.work().unwrap_or(0);
         match found {
-            Found::Accepted(_) => self.accepted += 1,
+            Found::Accepted(accepted) => {
+                self.accepted += 1;
+                self.total += i128::from(accepted.total);
+            }
             Found::Refused(..) => self.refused += 1,
             Found::Unread(_) => self.unread += 1,
         }

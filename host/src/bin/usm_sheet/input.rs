@@ -1,19 +1,21 @@
-//! What is read: sheet files and texts, never more than one byte past the longest.
+//! What is read: sheet files, texts and CSVs, never more than one byte past the longest.
 
 use std::ffi::OsStr;
 use std::fmt::Display;
 use std::fs::File;
 use std::io::{self, Read};
+use std::path::Path;
 
-use usm::program::{shown, Stream};
+use usm::program::{not_empty, shown, Stream};
 use usm::text::Errors;
-use usm::{sentences, text, Sheet, LONGEST_FILE};
+use usm::{csv, sentences, text, Fill, Form, Origin, Sheet, LONGEST_FILE};
 
 /// More than any sheet's text needs; it keeps a wrong file from filling the memory.
 const LONGEST_TEXT: usize = 1 << 20;
 
 /// All of a file or of standard input, but no more than one byte past `most`, into an empty buffer.
 pub fn read_into(bytes: &mut Vec<u8>, name: &OsStr, most: usize) -> Result<(), String> {
+    not_empty(name)?;
     let failed = |error: io::Error| format!("{}: cannot be read: {error}", shown(name));
     let source: Box<dyn Read> = match name.to_str() {
         Some("-") => Box::new(Stream::input()),
@@ -26,23 +28,76 @@ pub fn read_into(bytes: &mut Vec<u8>, name: &OsStr, most: usize) -> Result<(), S
 
 /// The sheet in a file, judged only as far as the reader does.
 pub fn sheet(name: &OsStr) -> Result<Sheet, String> {
+    sheet_with_origin(name).map(|(sheet, _)| sheet)
+}
+
+/// The same, with form and account.
+pub fn sheet_with_origin(name: &OsStr) -> Result<(Sheet, Origin), String> {
     let mut file = Vec::new();
     read_into(&mut file, name, LONGEST_FILE)?;
     sheet_in(name, &file)
 }
 
-fn sheet_in(name: &OsStr, file: &[u8]) -> Result<Sheet, String> {
-    Sheet::from_file(file).map_err(|refusal| {
+fn sheet_in(name: &OsStr, file: &[u8]) -> Result<(Sheet, Origin), String> {
+    Sheet::with_origin(file).map_err(|refusal| {
         format!("{}: refusal {}: {}", shown(name), refusal.number, sentences::of_file(file, &refusal))
     })
 }
 
+/// What a sheet was read from.
+#[derive(Clone, Copy, PartialEq, Eq)]
+pub enum Kind {
+    File,
+    Text,
+}
+
 /// The sheet in a file or in a text. The blocks of a file have zero bytes, and a text has none.
-pub fn sheet_or_text(name: &OsStr) -> Result<Sheet, String> {
+pub fn sheet_and_kind(name: &OsStr) -> Result<(Sheet, Kind), String> {
     let bytes = read_bytes(name)?;
     match bytes.contains(&0) {
-        true => sheet_in(name, &bytes),
-        false => text::parse(&text_in(name, bytes)?).map_err(|errors| told(name, &errors)),
+        true => sheet_in(name, &bytes).map(|(sheet, _)| (sheet, Kind::File)),
+        false => Ok((text_sheet(name, text_in(name, bytes)?)?, Kind::Text)),
+    }
+}
+
+fn text_sheet(name: &OsStr, text: String) -> Result<Sheet, String> {
+    text::parse(&text).map_err(|errors| told(name, &errors))
+}
+
+/// Whether a name says that the file is a CSV.
+pub fn is_csv(name: &OsStr) -> bool {
+    Path::new(name).extension().map_or(false, |ending| ending.eq_ignore_ascii_case("csv"))
+}
+
+/// A table of a CSV, read by `parse`.
+pub fn csv_table<T>(
+    name: &OsStr,
+    parse: fn(&str) -> Result<Vec<T>, csv::CellErrors>,
+) -> Result<Vec<T>, String> {
+    parse(&read_text(name)?).map_err(|errors| told(name, &errors))
+}
+
+/// The sheet in a text, or the holdings in a CSV.
+pub fn holdings_in(name: &OsStr) -> Result<Sheet, String> {
+    match is_csv(name) {
+        true => Ok(Sheet { holdings: csv_table(name, csv::parse_holdings)?, ..Sheet::default() }),
+        false => text_sheet(name, read_text(name)?),
+    }
+}
+
+/// The sheet in a file or in a text, or the holdings in a CSV.
+pub fn sheet_or_holdings(name: &OsStr) -> Result<Sheet, String> {
+    match is_csv(name) {
+        true => holdings_in(name),
+        false => sheet_and_kind(name).map(|(sheet, _)| sheet),
+    }
+}
+
+/// The fills in a text or in a CSV.
+pub fn fills_in(name: &OsStr) -> Result<Vec<Fill>, String> {
+    match is_csv(name) {
+        true => csv_table(name, csv::parse_fills),
+        false => text::parse_fills(&read_text(name)?).map_err(|errors| told(name, &errors)),
     }
 }
 
@@ -60,6 +115,12 @@ fn read_bytes(name: &OsStr) -> Result<Vec<u8>, String> {
 }
 
 fn text_in(name: &OsStr, bytes: Vec<u8>) -> Result<String, String> {
+    if Form::of_block(&bytes).is_some() {
+        return Err(format!(
+            "{}: is a sheet file, and a text is expected; `sheet show FILE` prints its text",
+            shown(name)
+        ));
+    }
     String::from_utf8(bytes).map_err(|error| {
         let good = &error.as_bytes()[..error.utf8_error().valid_up_to()];
         let line = 1 + good.iter().filter(|&&byte| byte == b'\n').count();

@@ -10,7 +10,8 @@ use usm::{sentences, Sheet};
 use crate::arguments::number_of;
 use crate::groups::no_spread;
 use crate::input::sheet;
-use crate::make::{file_of, same_file, write};
+use crate::inputs::not_over_itself;
+use crate::make::{file_of, write};
 
 /// Writes the sheet with the two groups in one, and tells what it needs then; form, account and holdings stay.
 pub fn join(name: &OsStr, groups: [&OsString; 2], out_name: &OsStr, force: bool) -> Result<ExitCode, String> {
@@ -20,9 +21,7 @@ pub fn join(name: &OsStr, groups: [&OsString; 2], out_name: &OsStr, force: bool)
     if g == k {
         return Err(format!("two groups are joined, and group {g} is named twice"));
     }
-    if same_file(name, out_name) {
-        return Err(named(String::from("is joined; what comes out needs another name")));
-    }
+    not_over_itself(name, out_name)?;
     match joined(&sheet(name)?, g, k) {
         Ok((sheet, said)) => {
             write(out_name, &file_of(&sheet, name)?, force)?;

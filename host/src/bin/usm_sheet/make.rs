@@ -1,21 +1,76 @@
-//! From a text to a sheet file, and back.
+//! From a text or from CSVs to a sheet file, and back.
 
 use std::ffi::OsStr;
-use std::fs;
+use std::path::Path;
 use std::process::ExitCode;
 
 use usm::program::{self, shown};
-use usm::{sentences, text, Sheet};
+use usm::{csv, sentences, text, Leg, Sheet};
 
-use crate::input::{read_text, sheet, told};
+use crate::input::{csv_table, holdings_in, is_csv, sheet, Kind};
+use crate::inputs::{not_over_itself, two_inputs};
 use crate::output::Output;
+use crate::warnings::tell_of_small;
 
 pub fn make(text_name: &OsStr, out_name: &OsStr, force: bool) -> Result<ExitCode, String> {
-    if same_file(text_name, out_name) {
-        return Err(format!("{}: is the text; the sheet file needs another name", shown(text_name)));
+    not_over_itself(text_name, out_name)?;
+    let sheet = holdings_in(text_name)?;
+    write(out_name, &file_of(&sheet, text_name)?, force)?;
+    tell_of_small(text_name, &sheet);
+    Ok(ExitCode::SUCCESS)
+}
+
+/// Makes a sheet without claims of two CSVs.
+pub fn make_of_tables(
+    holdings: &OsStr,
+    placement: &OsStr,
+    out_name: &OsStr,
+    force: bool,
+) -> Result<ExitCode, String> {
+    two_inputs([("the holdings", holdings), ("the placement", placement)], out_name)?;
+    let sheet = Sheet {
+        holdings: csv_table(holdings, csv::parse_holdings)?,
+        placement: csv_table(placement, csv::parse_placement)?,
+        ..Sheet::default()
+    };
+    write(out_name, &file_of(&sheet, holdings)?, force)?;
+    if !sheet.placement.is_empty() {
+        program::tell(&format!(
+            "{}: there are no claims yet; `sheet claim FILE OUT` fills them in",
+            shown(out_name)
+        ));
     }
-    let sheet = text::parse(&read_text(text_name)?).map_err(|errors| told(text_name, &errors))?;
-    write(out_name, &file_of(&sheet, text_name)?, force).map(|()| ExitCode::SUCCESS)
+    Ok(ExitCode::SUCCESS)
+}
+
+/// A sheet as what the name asks for by its ending, or else as what it was read from.
+pub fn made(sheet: &Sheet, kind: Kind, name: &OsStr, out_name: &OsStr) -> Result<Vec<u8>, String> {
+    match kind {
+        Kind::Text if !is_sheet_file(out_name) => Ok(text::show(sheet).into_bytes()),
+        _ => file_of(sheet, name),
+    }
+}
+
+/// Holdings as what the name asks for by its ending: a sheet file, a CSV, or else a text.
+pub fn made_holdings(
+    account: u64,
+    holdings: Vec<Leg>,
+    name: &OsStr,
+    out_name: &OsStr,
+) -> Result<Vec<u8>, String> {
+    if is_sheet_file(out_name) {
+        return file_of(&Sheet { account, holdings, ..Sheet::default() }, name);
+    }
+    Ok(match is_csv(out_name) {
+        true => csv::show_holdings(&holdings),
+        false => text::show_held(account, &holdings),
+    }
+    .into_bytes())
+}
+
+/// Whether a name says that a sheet file is to be written.
+fn is_sheet_file(name: &OsStr) -> bool {
+    Path::new(name).extension().map_or(false, |ending| ending == "usm")
 }
 
 /// The file of a sheet that was read under this name.
@@ -34,16 +89,14 @@ pub fn write(name: &OsStr, bytes: &[u8], force: bool) -> Result<(), String> {
     }
 }
 
-/// Whether the two are names of one file that is there.
-pub fn same_file(text_name: &OsStr, out_name: &OsStr) -> bool {
-    match (fs::canonicalize(text_name), fs::canonicalize(out_name)) {
-        (Ok(text), Ok(out)) => text_name != "-" && out_name != "-" && text == out && text.is_file(),
-        _ => false,
-    }
-}
-
-pub fn show(name: &OsStr) -> Result<ExitCode, String> {
-    print(text::show(&sheet(name)?).as_bytes()).map(|()| ExitCode::SUCCESS)
+/// Prints a sheet file as text, or only what it holds.
+pub fn show(name: &OsStr, only_holdings: bool) -> Result<ExitCode, String> {
+    let sheet = sheet(name)?;
+    let text = match only_holdings {
+        true => text::show_held(sheet.account, &sheet.holdings),
+        false => text::show(&sheet),
+    };
+    print(text.as_bytes()).map(|()| ExitCode::SUCCESS)
 }
 
 fn print(bytes: &[u8]) -> Result<(), String> {

@@ -8,7 +8,8 @@ use usm::{move_to_new, move_to_old, sentences, Form, Origin, LONGEST_FILE};
 
 use crate::arguments::number_of;
 use crate::input::read_into;
-use crate::make::{same_file, write};
+use crate::inputs::not_over_itself;
+use crate::make::write;
 
 /// To the new form, with an account.
 pub fn to_new(name: &OsStr, account: &OsStr, out_name: &OsStr, force: bool) -> Result<ExitCode, String> {
@@ -22,9 +23,7 @@ pub fn to_old(name: &OsStr, out_name: &OsStr, force: bool) -> Result<ExitCode, S
 
 fn moved(name: &OsStr, to: Origin, out_name: &OsStr, force: bool) -> Result<ExitCode, String> {
     let named = |what: String| format!("{}: {what}", shown(name));
-    if same_file(name, out_name) {
-        return Err(named(String::from("is moved; what comes out needs another name")));
-    }
+    not_over_itself(name, out_name)?;
     let (mut file, mut out) = (Vec::new(), vec![0; LONGEST_FILE]);
     read_into(&mut file, name, LONGEST_FILE)?;
     let length = match to.form {

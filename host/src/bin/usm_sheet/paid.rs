@@ -8,14 +8,13 @@ use usm::program::{self, shown};
 use usm::sentences;
 
 use crate::input::sheet;
-use crate::make::{same_file, write};
+use crate::inputs::not_over_itself;
+use crate::make::write;
 
 /// Marks every unplaced long as paid; form, account and all else stay.
 pub fn mark_paid(name: &OsStr, out_name: &OsStr, force: bool) -> Result<ExitCode, String> {
     let named = |what: String| format!("{}: {what}", shown(name));
-    if same_file(name, out_name) {
-        return Err(named(String::from("is marked; what comes out needs another name")));
-    }
+    not_over_itself(name, out_name)?;
     let mut sheet = sheet(name)?;
     let marks = sheet.mark_paid();
     let file = marks.and_then(|marks| Ok((marks, sheet.to_file()?)));

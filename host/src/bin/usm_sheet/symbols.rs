@@ -1,54 +1,81 @@
 //! Lists of option symbols: what members send becomes holdings, and back.
 
 use std::ffi::OsStr;
-use std::path::Path;
+use std::fmt::{self, Display, Formatter};
 use std::process::ExitCode;
 
 use usm::numbers::{count, grouped};
 use usm::program::{self, shown};
 use usm::text::{self, Errors};
 use usm::{
-    holdings_of_list, list_of_holdings, sentences, Leg, Refusal, Root, Sheet, LIST_TABLE, LONGEST_LIST,
-    MOST_LINES, ROOTS_TABLE,
+    holdings_of_list, list_of_holdings, sentences, Leg, Refusal, Root, LIST_TABLE, LONGEST_LIST, MOST_LINES,
+    ROOTS_TABLE,
 };
 
-use crate::input::{read_into, read_text, sheet_or_text, told};
-use crate::inputs::{tell_left_out, two_inputs};
-use crate::make::{file_of, write};
+use crate::input::{read_into, read_text, sheet_or_holdings, told};
+use crate::inputs::{not_beside_json, tell_left_out, two_inputs};
+use crate::json::{self, Object};
+use crate::make::{made_holdings, write};
+use crate::output::print;
 
 /// What is longer is no list; every line of it would be judged by itself.
 const LONGEST_INPUT: usize = 8 * LONGEST_LIST;
 
-/// Writes the holdings that a list says: as text, or as a sheet file where the name asks for one.
-pub fn import(
-    roots_name: &OsStr,
-    list_name: &OsStr,
-    out_name: &OsStr,
-    force: bool,
-) -> Result<ExitCode, String> {
-    two_inputs([("the roots", roots_name), ("the list", list_name)], "read", out_name)?;
-    let (roots, list) = (roots(roots_name)?, list(list_name)?);
-    let holdings = match holdings_of_list(&roots, &list) {
-        Ok(holdings) => holdings,
+/// The names of what is read and written.
+pub struct Names<'a> {
+    pub roots: &'a OsStr,
+    pub list: &'a OsStr,
+    pub out: &'a OsStr,
+}
+
+/// Writes the holdings that a list says: as text, or as a sheet file or a CSV where the name asks for one.
+pub fn import(names: &Names, force: bool, json: bool) -> Result<ExitCode, String> {
+    two_inputs([("the roots", names.roots), ("the list", names.list)], names.out)?;
+    not_beside_json(json, names.out)?;
+    let (roots, list) = (roots(names.roots)?, list(names.list)?);
+    let (refused_name, errors) = match holdings_of_list(&roots, &list) {
+        Ok(holdings) => return imported(names, holdings, force, json),
         Err(refusal) if refusal.table == ROOTS_TABLE => {
-            return refused(roots_name, &only(&refusal, sentences::of_import(&roots, &list, &refusal)));
+            (names.roots, only(&refusal, sentences::of_import(&roots, &list, &refusal)))
         }
-        Err(refusal) => return refused(list_name, &list_errors(&roots, &list, &refusal)),
+        Err(refusal) => (names.list, list_errors(&roots, &list, &refusal)),
     };
-    let (lines, sheet) = (holdings.len() as u64, Sheet { holdings, ..Sheet::default() });
-    let made = match Path::new(out_name).extension() {
-        Some(kind) if kind == "usm" => file_of(&sheet, list_name)?,
-        _ => text::show_holdings(&sheet.holdings).into_bytes(),
+    match json {
+        true => print(&object(names, None, &errors).line()).map(|_| ExitCode::from(1)),
+        false => refused(refused_name, &errors),
+    }
+}
+
+fn imported(names: &Names, holdings: Vec<Leg>, force: bool, json: bool) -> Result<ExitCode, String> {
+    let lines = holdings.len();
+    write(names.out, &made_holdings(0, holdings, names.list, names.out)?, force)?;
+    match json {
+        true => print(&object(names, Some(lines), &Errors::default()).line()),
+        false => {
+            program::tell(&format!("{}: {} imported", shown(names.list), count(lines as u64, "line")));
+            Ok(ExitCode::SUCCESS)
+        }
+    }
+}
+
+/// What came out of a list, or all that is wrong with it or with the roots.
+fn object(names: &Names, records: Option<usize>, errors: &Errors<Said>) -> Object {
+    let listed = errors.listed().iter().map(|said| json::refused(&said.refusal, &said.sentence));
+    let object = Object::of(names.list).named("roots", names.roots);
+    let object = match records {
+        Some(_) => object.named("out", names.out),
+        None => object.with("out", None::<&str>),
     };
-    write(out_name, &made, force)?;
-    program::tell(&format!("{}: {} imported", shown(list_name), count(lines, "line")));
-    Ok(ExitCode::SUCCESS)
+    object
+        .with("records", records)
+        .with("refused", listed.collect::<Vec<Object>>())
+        .with("more", errors.unlisted())
 }
 
 /// Writes the holdings of a sheet file, or of a sheet's text, as a list.
 pub fn export(roots_name: &OsStr, name: &OsStr, out_name: &OsStr, force: bool) -> Result<ExitCode, String> {
-    two_inputs([("the roots", roots_name), ("the sheet", name)], "read", out_name)?;
-    let (roots, sheet) = (roots(roots_name)?, sheet_or_text(name)?);
+    two_inputs([("the roots", roots_name), ("the sheet", name)], out_name)?;
+    let (roots, sheet) = (roots(roots_name)?, sheet_or_holdings(name)?);
     let list = match list_of_holdings(&roots, &sheet.holdings) {
         Ok(list) => list,
         Err(refusal) if refusal.table == ROOTS_TABLE => {
@@ -81,24 +108,32 @@ fn list(name: &OsStr) -> Result<Vec<u8>, String> {
 }
 
 /// Says what is refused; nothing is written.
-fn refused(name: &OsStr, errors: &Errors<String>) -> Result<ExitCode, String> {
+fn refused(name: &OsStr, errors: &Errors<Said>) -> Result<ExitCode, String> {
     told(name, errors).lines().for_each(program::tell);
     Ok(ExitCode::from(1))
 }
 
-fn said(refusal: &Refusal, sentence: String) -> String {
-    format!("refusal {}: {sentence}", refusal.number)
+/// A refusal and its sentence.
+struct Said {
+    refusal: Refusal,
+    sentence: String,
 }
 
-fn only(refusal: &Refusal, sentence: String) -> Errors<String> {
+impl Display for Said {
+    fn fmt(&self, f: &mut Formatter) -> fmt::Result {
+        write!(f, "refusal {}: {}", self.refusal.number, self.sentence)
+    }
+}
+
+fn only(refusal: &Refusal, sentence: String) -> Errors<Said> {
     let mut errors = Errors::default();
-    errors.add(said(refusal, sentence));
+    errors.add(Said { refusal: *refusal, sentence });
     errors
 }
 
 /// All that is wrong with a list that is refused: the library judges each line by itself, and what holds of
 /// every line is said once.
-fn list_errors(roots: &[Root], list: &[u8], refusal: &Refusal) -> Errors<String> {
+fn list_errors(roots: &[Root], list: &[u8], refusal: &Refusal) -> Errors<Said> {
     let lines = || list.split_inclusive(|byte| *byte == b'\n');
     if refusal.table != LIST_TABLE {
         return only(refusal, sentences::of_import(roots, list, refusal));
@@ -113,19 +148,19 @@ fn list_errors(roots: &[Root], list: &[u8], refusal: &Refusal) -> Errors<String>
     for (place, line) in (0..).zip(lines()) {
         if let Err(refusal) = holdings_of_list(roots, line) {
             let refusal = Refusal { place, ..refusal };
-            errors.add(said(&refusal, sentences::of_line(line, &refusal)));
+            errors.add(Said { refusal, sentence: sentences::of_line(line, &refusal) });
         }
     }
     errors
 }
 
 /// All records that no line can say, each judged by itself.
-fn record_errors(roots: &[Root], holdings: &[Leg]) -> Errors<String> {
+fn record_errors(roots: &[Root], holdings: &[Leg]) -> Errors<Said> {
     let mut errors = Errors::default();
     for (place, leg) in (0..).zip(holdings) {
         if let Err(refusal) = list_of_holdings(roots, &[*leg]) {
             let refusal = Refusal { place, ..refusal };
-            errors.add(said(&refusal, sentences::of_export(roots, holdings, &refusal)));
+            errors.add(Said { refusal, sentence: sentences::of_export(roots, holdings, &refusal) });
         }
     }
     errors

@@ -2,20 +2,22 @@
 
 use std::ffi::OsString;
 
-use usm::program::shown;
 use usm::text::digits;
+
+use crate::arguments::quoted;
+use crate::usage;
 
 pub struct Words<'a> {
     words: std::slice::Iter<'a, OsString>,
-    /// How the whole command is said.
-    form: &'static str,
+    /// The command whose words they are.
+    command: &'static str,
     /// What else might have stood where the next word is.
     might_be: String,
 }
 
 impl<'a> Words<'a> {
-    pub fn of(words: &'a [OsString], form: &'static str) -> Words<'a> {
-        Words { words: words.iter(), form, might_be: String::new() }
+    pub fn of(words: &'a [OsString], command: &'static str) -> Words<'a> {
+        Words { words: words.iter(), command, might_be: String::new() }
     }
 
     fn peek(&self) -> Option<&'a OsString> {
@@ -24,10 +26,10 @@ impl<'a> Words<'a> {
 
     fn wrong(&self, expected: &str) -> String {
         let found = match self.peek() {
-            Some(word) => format!("`{}`", shown(word)),
+            Some(word) => quoted(word),
             None => String::from("the end of the command"),
         };
-        format!("expected {}{expected}, found {found}\nit is said: {}", self.might_be, self.form)
+        format!("expected {}{expected}, found {found}\n{}", self.might_be, usage::line(self.command))
     }
 
     /// The next word, read by `read`.

@@ -126,7 +126,7 @@ fn a_line_has_just_that_form() {
 fn every_line_ends_with_a_newline() {
     let whole = [LINE, LINE].concat();
     for cut in 1..LINE.len() {
-        assert_no_list(&apple(), whole[..whole.len() - cut].as_bytes(), (22, 6, 1));
+        assert_no_list(&apple(), &whole.as_bytes()[..whole.len() - cut], (22, 6, 1));
     }
     for past in ["A", " ", "\r", "\0", "AAPL  110521C00060000 L 5"] {
         assert_no_list(&apple(), [&whole, past].concat().as_bytes(), (22, 6, 2));

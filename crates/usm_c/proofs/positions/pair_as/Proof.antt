@@ -1,21 +1,14 @@
-use mathlib.Core.Path.{refl}
-use borrow.Author.Tests.{ne-eqb}
-use Rattle.usm_c.specs.Outcomes.{pairAs}
+use mathlib.Core.Path.{_∙_}
 use borrow.Author.Needs.{needs}
+use Rattle.usm_c.proofs.PositionLaws.{no-mark, a-mark}
 use Rattle.usm_c.proofs.positions.pair_as.Statement.{statement}
 use Rattle.usm_c.proofs.positions.pair_as.Tie as tie
 
 returns : tie.Need-returns
-unfolding pairAs
-returns c = rw (c .before .match .keys1) (c .pair-margin .ensures)
+returns c = c .no-position .ensures ∙ no-mark _ _ _ _ (c .before .if1 .taken)
 
 returns-2 : tie.Need-returns-2
-unfolding pairAs
-returns-2 c = rw (c .before .match .keys2) (c .pair-margin2 .ensures)
-
-returns-3 : tie.Need-returns-3
-unfolding pairAs
-returns-3 c = let n = c .match .rest in rw (ne-eqb _ 0 (n .0 .1), ne-eqb _ 1 (n .1)) refl
+returns-2 c = c .pair-margin .ensures ∙ a-mark _ _ _ _ (c .before .if1 .left)
 
 pub pair-as-spec : {M : Type 1} → statement M
-pair-as-spec = tie.close (tie.spec (λ c κs. search needs) (λ c κs. search needs) returns returns-2 returns-3)
+pair-as-spec = tie.close (tie.spec (λ c κs. search needs) returns (λ c κs. search needs) returns-2)

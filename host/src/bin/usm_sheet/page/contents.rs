@@ -6,7 +6,8 @@ use usm::Accepted;
 use super::html::{all, element, text, words, Html};
 use super::sheets::{verdict, verdict_class, Told};
 use super::table::{number, table_with, Row};
-use crate::check::{Found, Tally};
+use crate::check::Tally;
+use crate::found::Found;
 
 const HEADS: [&str; 3] = ["File", "Verdict", "Total margin"];
 

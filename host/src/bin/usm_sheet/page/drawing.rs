@@ -2,7 +2,7 @@
 
 use usm::numbers::dollars;
 
-use super::html::{all, element, text, words, Html};
+use super::html::{all, element, words, Html};
 use super::scale::{written, Scale, HEIGHT, WIDTH};
 
 /// How wide one character of a word is at most, and how high a line.
@@ -81,10 +81,11 @@ fn strikes(scale: &Scale, rows: &[(u32, i64)]) -> Html {
     let marks = rows.iter().map(|&(strike, net)| {
         let (x, y) = (written(scale.x(strike.into())), written(scale.y(net)));
         let ends = [written(AXIS), written(AXIS + 5.0)];
-        let tick = [("class", "tick"), ("x1", &x), ("x2", &x), ("y1", &ends[0]), ("y2", &ends[1])];
+        let tick: [(&str, &str); 5] =
+            [("class", "tick"), ("x1", &x), ("x2", &x), ("y1", &ends[0]), ("y2", &ends[1])];
         let (class, radius) = if (strike, net) == worst { ("worst", "5") } else { ("dot", "2.5") };
         all([
-            element("line", &tick.map(|(key, value): (&str, &str)| (key, value)), []),
+            element("line", &tick, []),
             element("circle", &[("class", class), ("cx", &x), ("cy", &y), ("r", radius)], []),
         ])
     });
@@ -143,6 +144,6 @@ fn within(scale: &Scale, x: f64, says: &str) -> f64 {
 }
 
 fn label(class: &str, anchor: &str, (x, y): (f64, f64), says: &str) -> Html {
-    let attributes = [("class", class), ("text-anchor", anchor), ("x", &written(x)), ("y", &written(y))];
-    element("text", &attributes.map(|(key, value): (&str, &str)| (key, value)), [text(says)])
+    let (x, y) = (written(x), written(y));
+    words("text", &[("class", class), ("text-anchor", anchor), ("x", &x), ("y", &y)], says)
 }

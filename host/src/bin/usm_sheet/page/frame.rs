@@ -45,11 +45,10 @@ fn back(several: bool) -> Html {
 }
 
 fn foot() -> Html {
-    let says = concat!(
-        "Made by sheet ",
-        env!("CARGO_PKG_VERSION"),
-        ". Verdicts, margins and nets are what the proved library answers. A mill is 1/1000 dollar. A leg\u{2019}s \
-         units are its contracts times its unit size."
+    let says = format!(
+        "Made by sheet {}. Verdicts, margins and nets are what the proved library answers. A mill is 1/1000 dollar. \
+         A leg\u{2019}s units are its contracts times its unit size.",
+        usm::VERSION
     );
-    element("footer", &[], [words("p", &[], says)])
+    element("footer", &[], [words("p", &[], &says)])
 }

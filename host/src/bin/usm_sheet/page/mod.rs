@@ -21,8 +21,11 @@ use std::process::ExitCode;
 use usm::program::{self, shown};
 use usm::LONGEST_FILE;
 
-use crate::check::{judge, Found, Tally};
-use crate::make::{same_file, write};
+use crate::check::{judge, Tally};
+use crate::files::asked;
+use crate::found::Found;
+use crate::inputs::same_file;
+use crate::make::write;
 use sheets::Told;
 
 /// Makes the page of these files. What could not be read is told on the page, too.
@@ -31,8 +34,8 @@ pub fn page(names: &[OsString], out_name: &OsStr, force: bool) -> Result<ExitCod
     let mut tally = Tally::default();
     let mut file = Vec::with_capacity(LONGEST_FILE + 1);
     let mut sheets = Vec::with_capacity(names.len());
-    for (row, name) in names.iter().enumerate() {
-        let found = judge(&mut file, name, &names[..row]);
+    for (row, asked) in asked(names, &[])?.iter().enumerate() {
+        let (name, found) = judge(&mut file, asked);
         tally.count(&found);
         sheets.push(Told::of(row + 1, name, &file, found));
     }

@@ -10,7 +10,7 @@ use super::group::{group, placed_in};
 use super::html::{all, element, text, words, Html};
 use super::legs::legs;
 use super::refused::refused;
-use crate::check::Found;
+use crate::found::Found;
 
 /// A file that was read or could not be, and its part of the page.
 pub struct Told {
@@ -33,9 +33,11 @@ impl Told {
         let account = sheet.as_ref().map_or(0, |sheet| sheet.account);
         let inside = match (&found, &sheet) {
             (Found::Accepted(accepted), Some(sheet)) => {
-                all([facts(accepted, sheet), accepted_sheet(&id, sheet)])
+                all([facts(accepted, account), accepted_sheet(&id, sheet)])
             }
-            (Found::Refused(refusal, says), _) => all([line(&found), refused(&id, file, refusal, says)]),
+            (Found::Refused(refusal, says), _) => {
+                all([line(&found, account), refused(&id, file, refusal, says)])
+            }
             (Found::Unread(message), _) => words("p", &[("class", "refusal")], message),
             (Found::Accepted(_), None) => all([]),
         };
@@ -45,7 +47,7 @@ impl Told {
     }
 }
 
-/// The word for what became of a file, which is its class too.
+/// The word for what became of a file.
 pub fn verdict(found: &Found) -> &'static str {
     match found {
         Found::Accepted(_) => "accepted",
@@ -66,13 +68,18 @@ fn head(file: &str, found: &Found) -> Html {
     element("h2", &[], [element("span", &[("class", "file")], [text(file)]), text(" "), verdict])
 }
 
-/// The line for programs.
-fn line(found: &Found) -> Html {
-    element("p", &[("class", "line")], [words("code", &[], found.line().trim_end())])
+/// The line for programs, and the account where the file says it.
+fn line(found: &Found, account: u64) -> Html {
+    let account = match account {
+        0 => String::new(),
+        account => format!(", account {account}"),
+    };
+    let line = words("code", &[], found.line().trim_end());
+    element("p", &[("class", "line")], [line, text(account)])
 }
 
-fn facts(accepted: &Accepted, sheet: &Sheet) -> Html {
-    let account = match sheet.account {
+fn facts(accepted: &Accepted, account: u64) -> Html {
+    let account = match account {
         0 => String::from("none in this file (old form)"),
         account => account.to_string(),
     };
