@@ -18,14 +18,14 @@ pub same-bucket : (x y : Leg) → sameLineSide x y ≡ true → bucketOf x ≡ b
 unfolding bucketOf
 same-bucket x y e = let l = same? x y .0 e in cc
 
-pub bucket-small : (k : ℕ) (x : Leg) → bucketOf x < 1021 + k
+pub bucket-small : (k : ℕ) (x : Leg) → bucketOf x < 1024 + k
 unfolding bucketOf
 bucket-small k x = omega arith
 
 -- ---- one step
 
 module _ {links : List ℕ} where
-  pub path-small : {l e : ℕ} (k : ℕ) → Rising k links → l < 1021 + k → Path links l e → e < 1021 + k
+  pub path-small : {l e : ℕ} (k : ℕ) → Rising k links → l < 1024 + k → Path links l e → e < 1024 + k
   path-small k rising h (links-of.stop q) = omega arith
   path-small {l} k rising h (links-of.on j s rest) = path-small k rising (omega (arith, rising l j s .0)) rest
 
@@ -37,14 +37,14 @@ module _ {links : List ℕ} where
   pub leads-none : {l : ℕ} (k : ℕ) → Leads links l k → getD links l 0 ≡ 0 → ⊥
   leads-none k d z = path-none k (d .path) (d .last) z
 
-  path-on : {l e : ℕ} (j k : ℕ) → getD links l 0 ≡ suc j → (k ≡ j → ⊥) → Path links l e → getD links e 0 ≡ suc k → Leads links (1021 + j) k
+  path-on : {l e : ℕ} (j k : ℕ) → getD links l 0 ≡ suc j → (k ≡ j → ⊥) → Path links l e → getD links e 0 ≡ suc k → Leads links (1024 + j) k
   path-on j k t n (links-of.stop q) s = absurd (n (omega (arith, ap (λ (m : ℕ). getD links m 0) q)))
   path-on {l} {e} j k t n (links-of.on i u rest) s =
       let same : i ≡ j = omega arith in
       record { end = e; path = rw same at rest; last = s }
 
   -- what is led to past another record
-  pub leads-on : {l : ℕ} (j k : ℕ) → getD links l 0 ≡ suc j → (k ≡ j → ⊥) → Leads links l k → Leads links (1021 + j) k
+  pub leads-on : {l : ℕ} (j k : ℕ) → getD links l 0 ≡ suc j → (k ≡ j → ⊥) → Leads links l k → Leads links (1024 + j) k
   leads-on j k t n d = path-on j k t n (d .path) (d .last)
 
 -- ---- record k linked at a free link
@@ -68,7 +68,7 @@ module _ (links : List ℕ) (k at : ℕ) (none : getD links at 0 ≡ 0) (room : 
   pub leads-here : {l : ℕ} → Path links l at → Leads (set links at (suc k)) l k
   leads-here p = record { end = at; path = path-new p; last = getD-set-same links at (suc k) 0 room }
 
-  pub rising-new : at < 1021 + k → Rising k links → Rising (k + 1) (set links at (suc k))
+  pub rising-new : at < 1024 + k → Rising k links → Rising (k + 1) (set links at (suc k))
   rising-new small rising l j s =
       elim (ℕ-discrete l at) [
         | yes e ↦
@@ -79,29 +79,29 @@ module _ (links : List ℕ) (k at : ℕ) (none : getD links at 0 ≡ 0) (room : 
 
 -- ---- record j left out: the link that led to it leads on to where its own does
 
-module _ (links : List ℕ) (j at : ℕ) (s : getD links at 0 ≡ suc j) (small : at < 1021 + j) (room : at < length links) where
+module _ (links : List ℕ) (j at : ℕ) (s : getD links at 0 ≡ suc j) (small : at < 1024 + j) (room : at < length links) where
   abbrev less : List ℕ
-  less = set links at (getD links (1021 + j) 0)
+  less = set links at (getD links (1024 + j) 0)
 
-  same-next : getD less at 0 ≡ getD less (1021 + j) 0
+  same-next : getD less at 0 ≡ getD less (1024 + j) 0
   same-next =
-      getD-set-same links at (getD links (1021 + j) 0) 0 room
-      ∙ sym (getD-set-other links at (1021 + j) (getD links (1021 + j) 0) 0 (λ e. omega arith))
+      getD-set-same links at (getD links (1024 + j) 0) 0 room
+      ∙ sym (getD-set-other links at (1024 + j) (getD links (1024 + j) 0) 0 (λ e. omega arith))
 
-  over : {e : ℕ} (k : ℕ) → Path less (1021 + j) e → getD less e 0 ≡ suc k → Leads less at k
+  over : {e : ℕ} (k : ℕ) → Path less (1024 + j) e → getD less e 0 ≡ suc k → Leads less at k
   over k (links-of.stop q) t = record { end = at; path = links-of.stop refl; last = same-next ∙ ap (λ (m : ℕ). getD less m 0) (sym q) ∙ t }
   over {e} k (links-of.on i u rest) t = record { end = e; path = links-of.on i (same-next ∙ u) rest; last = t }
 
-  over-it : {l i : ℕ} (k : ℕ) → l ≡ at → i ≡ j → Leads less (1021 + i) k → Leads less l k
+  over-it : {l i : ℕ} (k : ℕ) → l ≡ at → i ≡ j → Leads less (1024 + i) k → Leads less l k
   over-it k w same d =
-      let p : Leads less (1021 + j) k = rw same at d in
+      let p : Leads less (1024 + j) k = rw same at d in
       rw w (over k (p .path) (p .last))
 
-  past-it : {l : ℕ} (i k : ℕ) → (l ≡ at → ⊥) → getD links l 0 ≡ suc i → Leads less (1021 + i) k → Leads less l k
+  past-it : {l : ℕ} (i k : ℕ) → (l ≡ at → ⊥) → getD links l 0 ≡ suc i → Leads less (1024 + i) k → Leads less l k
   past-it {l} i k m u d =
       record {
         end = d .end;
-        path = links-of.on i (getD-set-other links at l (getD links (1021 + j) 0) 0 m ∙ u) (d .path);
+        path = links-of.on i (getD-set-other links at l (getD links (1024 + j) 0) 0 m ∙ u) (d .path);
         last = d .last;
       }
 
@@ -110,7 +110,7 @@ module _ (links : List ℕ) (j at : ℕ) (s : getD links at 0 ≡ suc j) (small 
       record {
         end = e;
         path = links-of.stop q;
-        last = getD-set-other links at e (getD links (1021 + j) 0) 0 (λ w. n (omega (arith, ap (λ (m : ℕ). getD links m 0) w))) ∙ t;
+        last = getD-set-other links at e (getD links (1024 + j) 0) 0 (λ w. n (omega (arith, ap (λ (m : ℕ). getD links m 0) w))) ∙ t;
       }
   path-less {l} {e} k n (links-of.on i u rest) t =
       elim (ℕ-discrete l at) [
@@ -125,7 +125,7 @@ module _ (links : List ℕ) (j at : ℕ) (s : getD links at 0 ≡ suc j) (small 
   rising-less k rising l i t =
       elim (ℕ-discrete l at) [
         | yes w ↦
-            (let r = rising (1021 + j) i (sym (getD-set-same links at (getD links (1021 + j) 0) 0 room) ∙ ap (λ (m : ℕ). getD less m 0) (sym w) ∙ t) in
+            (let r = rising (1024 + j) i (sym (getD-set-same links at (getD links (1024 + j) 0) 0 room) ∙ ap (λ (m : ℕ). getD less m 0) (sym w) ∙ t) in
             (r .0, omega (arith, r .1)))
-        | no m ↦ rising l i (sym (getD-set-other links at l (getD links (1021 + j) 0) 0 m) ∙ t)
+        | no m ↦ rising l i (sym (getD-set-other links at l (getD links (1024 + j) 0) 0 m) ∙ t)
       ]

@@ -108,7 +108,7 @@ pub record Merging (xs fills held links : List ℕ) (n i : ℕ) : Type 0 where
   pub few : n ≤ i
   pub asked : firstOf (askPast [] 0 (startingLegs xs)) ≡ firstOf (askPast before i (rowsFrom unmarked xs i))
 
-pub merging-none : (xs fills held links : List ℕ) → 1280 ≤ length held → 2301 ≤ length links → Blank held → Blank links → Merging xs fills held links 0 0
+pub merging-none : (xs fills held links : List ℕ) → 1280 ≤ length held → 2304 ≤ length links → Blank held → Blank links → Merging xs fills held links 0 0
 unfolding mergedInto
 merging-none xs fills held links a b none free =
     record {

@@ -122,7 +122,7 @@ module _ {leg : ℕ → Leg} {k : ℕ} {held links : List ℕ} {n : ℕ} (s : St
         (rw (lot-closed leg held k j there room live (leg k) (row-is .1) others v e (omega arith))
         (stand-skip (stand-changed s small j live v (λ z. omega arith))))
 
-    pub take-all : size ≡ lot → Closing leg k held (set held j 0) (set links at (getD links (1021 + j) 0)) (posting (n - 1) 0)
+    pub take-all : size ≡ lot → Closing leg k held (set held j 0) (set links at (getD links (1024 + j) 0)) (posting (n - 1) 0)
     take-all m =
         posted-done (rw held-is (close-done lot size (omega arith)))
         (rw (lot-closed leg held k j there room live (leg k) (row-is .1) others 0 (omega arith) (omega arith))

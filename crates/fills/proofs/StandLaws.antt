@@ -24,7 +24,7 @@ blank zero j = refl
 blank (suc n) zero = refl
 blank (suc n) (suc j) = blank n j
 
-pub stand-none : (leg : ℕ → Leg) (held links : List ℕ) → 1280 ≤ length held → 2301 ≤ length links → Blank held → Blank links
+pub stand-none : (leg : ℕ → Leg) (held links : List ℕ) → 1280 ≤ length held → 2304 ≤ length links → Blank held → Blank links
     → Stand leg 0 held links 0 []
 unfolding rowsOf
 stand-none leg held links a b none free =
@@ -108,7 +108,7 @@ module _ {leg : ℕ → Leg} {k : ℕ} {held links : List ℕ} {n : ℕ} {rows :
 
   -- it leaves, and so does its link
   module _ (at : ℕ) (t : getD links at 0 ≡ suc j) where
-    at-small : at < 1021 + j
+    at-small : at < 1024 + j
     at-small = s .rising at j t .1
 
     at-room : at < length links
@@ -117,7 +117,7 @@ module _ {leg : ℕ → Leg} {k : ℕ} {held links : List ℕ} {n : ℕ} {rows :
     not-gone : (i : ℕ) → Live (set held j 0) i → i ≡ j → ⊥
     not-gone i l e = l (ap (λ (m : ℕ). getD (set held j 0) m 0) e ∙ getD-set-same held j 0 0 room)
 
-    pub stand-gone : Stand leg k (set held j 0) (set links at (getD links (1021 + j) 0)) (n - 1) (rowsTo leg (set held j 0) k)
+    pub stand-gone : Stand leg k (set held j 0) (set links at (getD links (1024 + j) 0)) (n - 1) (rowsTo leg (set held j 0) k)
     stand-gone =
         record {
           held-room = simp length-set (s .held-room);
@@ -135,7 +135,7 @@ module _ {leg : ℕ → Leg} {k : ℕ} {held links : List ℕ} {n : ℕ} {rows :
 
 module _ {leg : ℕ → Leg} {k : ℕ} {held links : List ℕ} {n : ℕ} {rows : List Leg} (s : Stand leg k held links n rows) (small : k < 1280) (at : ℕ)
     (path : Path links (bucketOf (leg k)) at) where
-  pub link-small : at < 1021 + k
+  pub link-small : at < 1024 + k
   link-small = path-small k (s .rising) (bucket-small k (leg k)) path
 
   module _ (none : getD links at 0 ≡ 0) (others : (i : ℕ) → Live held i → sameLineSide (leg k) (leg i) ≡ false)

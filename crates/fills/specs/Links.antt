@@ -17,10 +17,12 @@ use Rattle.fills.specs.Rows.{unmarked}
 unfoldable pub legIn : List ℕ → List ℕ → ℕ → Leg
 legIn h f k = cond (ltb k (length h / 32)) (unmarked (chunkAt 32 h k)) (legOf (chunkAt 32 f (k - length h / 32)))
 
--- which of 1,021 buckets a leg is in: legs of one line and side are in one
+-- which of 1,024 buckets a leg is in: legs of one line and side are in one
 unfoldable pub bucketOf : Leg → ℕ
 bucketOf l =
-    (l .strike + 3 * l .expiry + 31 * l .underlying + 17 * l .size + 7 * l .side + 5 * l .right) % 1021
+    (81649157 * l .strike + 68718953 * l .expiry + 60293689 * l .underlying + 52706207 * l .size + 97612921 * l .side + 73939133 * l .right)
+    / 4194304
+    % 1024
 
 -- record j is a row, of x's line and side
 abbrev pub isRow : (ℕ → Leg) → List ℕ → Leg → ℕ → Bool
@@ -28,12 +30,12 @@ isRow leg held x j = not (eqb (getD held j 0) 0) && sameLineSide x (leg j)
 
 -- links lead to the first k records, and each to one whose own link comes after it
 abbrev pub Rising : ℕ → List ℕ → Type 0
-Rising k links = (l j : ℕ) → getD links l 0 ≡ suc j → (j < k) × (l < 1021 + j)
+Rising k links = (l j : ℕ) → getD links l 0 ≡ suc j → (j < k) × (l < 1024 + j)
 
 -- the links go on from link l to link `end`
 pub data Path (links : List ℕ) : ℕ → ℕ → Type 0 where
   stop : {l end : ℕ} → end ≡ l → Path links l end
-  on : {l end : ℕ} (j : ℕ) → getD links l 0 ≡ suc j → Path links (1021 + j) end → Path links l end
+  on : {l end : ℕ} (j : ℕ) → getD links l 0 ≡ suc j → Path links (1024 + j) end → Path links l end
 
 -- from link l on they lead to record k
 pub record Leads (links : List ℕ) (l k : ℕ) : Type 0 where

@@ -13,7 +13,7 @@ use records::RECORD_BYTES;
 // The records of both tables, and their links.
 pub(crate) const MOST_RECORDS: usize = MOST_LEGS + MOST_FILLS;
 
-pub(crate) const BUCKETS: usize = 1021;
+pub(crate) const BUCKETS: usize = 1024;
 
 pub(crate) const MOST_LINKS: usize = BUCKETS + MOST_RECORDS;
 
@@ -35,24 +35,27 @@ pub(crate) fn wide(x: u16) -> usize
     x as usize
 }
 
+// Ten digits of a sum, from the middle: each number of the line moves them.
 fn bucket_of(leg: Leg) -> usize
-    ensures { λ r. ⌜ (r ≡ bucketOf leg) × (r < 1021) ⌝ }
+    ensures { λ r. ⌜ (r ≡ bucketOf leg) × (r < 1024) ⌝ }
 {
-    let terms = leg.strike as usize
-        + 3 * (leg.expiry as usize)
-        + 31 * (leg.underlying as usize)
-        + 17 * (leg.size as usize)
-        + 7 * (leg.side as usize)
-        + 5 * (leg.right as usize);
-    terms % BUCKETS
+    let terms = 81649157 * (leg.strike as usize)
+        + 68718953 * (leg.expiry as usize)
+        + 60293689 * (leg.underlying as usize)
+        + 52706207 * (leg.size as usize)
+        + 97612921 * (leg.side as usize)
+        + 73939133 * (leg.right as usize);
+    terms / 4194304 % BUCKETS
 }
 
-// The link to the row of the leg's line and side, or the free one at the end of its bucket.
-pub(crate) fn link_of(leg: Leg, holdings: &[u8], fills: &[u8], held: &[u32], links: &[u16]) -> usize
-    requires { ⌜ (1280 ≤ length (now held)) × (2301 ≤ length (now links)) ⌝ }
+// The link to the row of record k's line and side, or the free one at the end of its bucket. The record is read here,
+// so that its fields are never put together in memory.
+pub(crate) fn link_of(holdings: &[u8], fills: &[u8], k: usize, held: &[u32], links: &[u16]) -> usize
+    requires { ⌜ (1280 ≤ length (now held)) × (2304 ≤ length (now links)) ⌝ }
     requires { ⌜ Rising 1280 (now links) ⌝ }
-    ensures { λ r. ⌜ Ended (isRow (legIn (now (holdings .entry)) (now (fills .entry))) (now (held .entry)) leg) (now (links .entry)) (bucketOf leg) r ⌝ }
+    ensures { λ r. ⌜ Ended (isRow (legIn (now (holdings .entry)) (now (fills .entry))) (now (held .entry)) (legIn (now (holdings .entry)) (now (fills .entry)) k)) (now (links .entry)) (bucketOf (legIn (now (holdings .entry)) (now (fills .entry)) k)) r ⌝ }
 {
+    let leg = leg_in(holdings, fills, k);
     let mut link = bucket_of(leg);
     loop {
         let at = wide(links[link]);

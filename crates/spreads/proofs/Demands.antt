@@ -158,6 +158,7 @@ worksheet-right placement g strikes nets n e =
     let a = length strikes in
     let b = length nets in (
       worksheet-spread placement g a b n e,
+      worksheet-strikes placement g a b n e,
       rw (worksheet-strikes placement g a b n e) (put-front strikes (strikesOf legs)),
       rw (worksheet-nets placement g a b n e) (put-front nets (netsOf legs)),
     )

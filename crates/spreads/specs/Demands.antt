@@ -182,12 +182,13 @@ abbrev pub MarginsGiven : Type 0
 MarginsGiven = (placement : List ℕ) (n room : ℕ) → firstOf (tableChecks Placement placement) ≡ Nothing
     → ((g : ℕ) → 1 ≤ g → g ≤ n → Spread g (groupIn placement g)) → n ≤ room → marginsCall placement n room ≡ Entries n
 
--- where it answers, the group is a spread, and what stands in the lent slices is its strikes and its nets
+-- where it answers, the group is a spread, the count is that of its strikes, and in the lent slices stand its strikes and its nets
 abbrev pub WorksheetRight : Type 0
 WorksheetRight = (placement : List ℕ) (g : ℕ) (strikes : List ℕ) (nets : List ℤ) (n : ℕ)
     → worksheetCall placement g (length strikes) (length nets) ≡ Entries n
     → (let legs = groupIn placement g in
     Spread g legs
+    × (n ≡ length (strikesOf legs))
     × (take n (listLeft (Entries n) (strikesOf legs) strikes) ≡ strikesOf legs)
     × (take n (listLeft (Entries n) (netsOf legs) nets) ≡ netsOf legs))
 

@@ -9,7 +9,7 @@ use Rattle.verdicts.specs.FileVerdicts.{fileVerdict}
 use Rattle.usm_c.specs.Answers.{DueMills, RequiredMills, VerdictMills}
 use Rattle.usm_c.specs.Outcomes.{singleAs, pairAs}
 
--- No amount that a call answers is below zero, so that the word for it, `natAbs` of the amount, is the amount itself.
+-- No amount in the words of an answer is below zero, so that the word for it, `natAbs` of the amount, is the amount itself.
 pub record NoneBelowZero : Type 0 where
   pub margin : (placement : List ℕ) (g : ℕ) → DueMills (marginCall placement g)
   pub cash : (placement : List ℕ) (g : ℕ) → DueMills (cashCall placement g)

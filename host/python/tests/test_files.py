@@ -56,7 +56,20 @@ class Files(unittest.TestCase):
     def test_any_bytes_are_answered(self):
         for file in (b"", b"x", bytes(512), bytes(512 * 39), bytes(512 * 40), b"holdings\n" * 1000):
             self.assertEqual(line_of(file) + "\n", file_line(file))
-        self.assertEqual(line_of(bytearray(sample("box.usm"))), "ACCEPT 1 0")
+        for kind in (bytearray, memoryview):
+            self.assertEqual(line_of(kind(sample("box.usm"))), "ACCEPT 1 0")
+
+    def test_what_is_no_bytes_is_not_taken_for_a_file(self):
+        path = SAMPLES / "box.usm"
+        advice = "; open the file with mode 'rb' and read it"
+        wrong = ((5, "int"), ([0, 1], "list"), (None, "NoneType"), (str(path), f"str{advice}"),
+                 (path, f"{type(path).__name__}{advice}"))
+        calls = (check_file, file_line, file_table, read, to_old, salvage, lambda file: to_new(file, 1))
+        for file, found in wrong:
+            for call in calls:
+                with self.assertRaises(TypeError) as caught:
+                    call(file)
+                self.assertEqual(str(caught.exception), f"expected the bytes of a file, found {found}")
 
     def test_a_damaged_file_is_salvaged(self):
         damaged = (SAMPLES / "salvage" / "one-bad-block.usm").read_bytes()

@@ -4,10 +4,11 @@ from __future__ import annotations
 
 import ctypes
 import dataclasses
+import os
 from typing import List, Optional
 
 from .library import Lent, call, printed
-from .records import Claim, Leg, records, table
+from .records import BYTES, Claim, Leg, records, table
 from .refusal import Reason
 from .sheets import Accepted, Legs
 
@@ -43,26 +44,35 @@ class Salvaged:
     dropped: List[Dropped]
 
 
+def _taken(file: object) -> bytes:
+    # bytes() alone would make zeros of a number.
+    if isinstance(file, BYTES):
+        return bytes(file)
+    named = isinstance(file, (str, os.PathLike))
+    advice = "; open the file with mode 'rb' and read it" if named else ""
+    raise TypeError(f"expected the bytes of a file, found {type(file).__name__}{advice}")
+
+
 def check_file(file: bytes) -> Accepted:
     """The verdict on a sheet file; one that is not accepted is raised as a `Refusal`."""
-    return Accepted(*call("usm_check_file", bytes(file)))
+    return Accepted(*call("usm_check_file", _taken(file)))
 
 
 def file_line(file: bytes) -> str:
     """The line that usm_check prints for this file, with its newline."""
-    return printed("usm_file_line", bytes(file), 64)
+    return printed("usm_file_line", _taken(file), 64)
 
 
 def file_table(file: bytes) -> str:
     """The table that usm_table prints for this file."""
-    return printed("usm_file_table", bytes(file), 8_704)
+    return printed("usm_file_table", _taken(file), 8_704)
 
 
 def read(file: bytes) -> Sheet:
     """Takes a sheet file apart; whether its sheet is accepted is for `check_file` to say."""
     holdings, placement = Lent(ctypes.c_uint8, _LEGS_BYTES), Lent(ctypes.c_uint8, _LEGS_BYTES)
     claims, origin = Lent(ctypes.c_uint8, _CLAIMS_BYTES), (ctypes.c_uint64 * 2)()
-    counts = call("usm_read_file", bytes(file), holdings, placement, claims, behind=(origin,))
+    counts = call("usm_read_file", _taken(file), holdings, placement, claims, behind=(origin,))
     tables = [lent.bytes(count * _RECORD_BYTES) for lent, count in zip((holdings, placement, claims), counts)]
     form, account = origin
     return Sheet(
@@ -82,12 +92,12 @@ def write(sheet: Sheet) -> bytes:
 
 def to_new(file: bytes, account: int) -> bytes:
     """Moves a file of the old form to the new one, with the number of its account in each block."""
-    return _file("usm_move_to_new", bytes(file), account)
+    return _file("usm_move_to_new", _taken(file), account)
 
 
 def to_old(file: bytes) -> bytes:
     """Moves a file of the new form to the old one, which has no account."""
-    return _file("usm_move_to_old", bytes(file))
+    return _file("usm_move_to_old", _taken(file))
 
 
 def _file(name: str, *parts: object) -> bytes:
@@ -108,6 +118,6 @@ def salvage(damaged: bytes) -> Salvaged:
     """Makes a sound file of what is whole in a damaged one, and lists each block that was dropped."""
     out, indices = Lent(ctypes.c_uint8, LONGEST_FILE), Lent(ctypes.c_uint32, MOST_BLOCKS)
     numbers = Lent(ctypes.c_uint8, MOST_BLOCKS)
-    length, entries, _ = call("usm_salvage", bytes(damaged), out, indices, numbers)
+    length, entries, _ = call("usm_salvage", _taken(damaged), out, indices, numbers)
     dropped = zip(indices.first(entries), numbers.first(entries))
     return Salvaged(out.bytes(length), [Dropped(block, Reason(number)) for block, number in dropped])

@@ -153,11 +153,12 @@ class Root(_Packed):
 
 Record = Union[Leg, Claim, Fill, Root]
 Read = TypeVar("Read", Leg, Claim)
+BYTES = (bytes, bytearray, memoryview)
 
 
-def table(records: Union[bytes, bytearray, Iterable[Record]]) -> bytes:
+def table(records: Union[bytes, bytearray, memoryview, Iterable[Record]]) -> bytes:
     """The bytes of a table: the records' own, or, of a table that is bytes already, as it stands."""
-    if isinstance(records, (bytes, bytearray)):
+    if isinstance(records, BYTES):
         return bytes(records)
     return b"".join(record.to_bytes() for record in records)
 

@@ -124,6 +124,25 @@ fn a_page_that_is_there_stays_unless_forced() {
 }
 
 #[test]
+fn a_sheet_of_another_name_is_not_lost_either() {
+    let folder = folder("page-over-sheet");
+    let names = ["a.usm", "B.USM", "old", "new.html"];
+    let files = ["vertical.usm", "vertical.usm", "vertical.usm", "two-accounts-joined.usm"].map(sample);
+    for (name, file) in names.iter().zip(&files) {
+        fs::write(folder.join(name), file).expect("a file");
+    }
+    let ending = "is the name of a sheet; behind the sheets comes the name of the page, as page.html";
+    let mark = "is a sheet file, and is not written over; name another file for the page, as page.html";
+    for (name, why) in [("B.USM", ending), ("old", mark), ("new.html", mark)] {
+        let message = format!("sheet: {name}: {why}\n");
+        assert_eq!(told(&folder, &["a.usm", name, "--force"]), (Some(2), message));
+    }
+    for (name, file) in names.iter().zip(&files) {
+        assert!(fs::read(folder.join(name)).expect("it stays") == *file, "{name}");
+    }
+}
+
+#[test]
 fn the_page_goes_to_standard_output_too() {
     let folder = folder("page-output");
     fs::write(folder.join("a.usm"), sample("vertical.usm")).expect("a file");

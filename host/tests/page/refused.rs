@@ -119,6 +119,16 @@ fn both_amounts_are_told_that_have_to_be_equal() {
     assert_eq!(two("Contracts of this line and side", &more), ["Held 1,500", "Placed 1"]);
 }
 
+/// The mark is for all of them, and one may not be paid for.
+#[test]
+fn of_an_unplaced_long_it_is_told_that_every_one_is_marked() {
+    let (_, pieces, _) = read(&sample("unpaid-unplaced-long.usm"));
+    let advice =
+        "The long would have to stand in a group; or, if it is paid for in full, be marked as paid. \
+                  sheet mark-paid FILE OUT marks every unplaced long of the sheet.";
+    assert!(texts(&pieces, "p").iter().any(|text| text == advice), "{:?}", texts(&pieces, "p"));
+}
+
 #[test]
 fn the_account_of_a_refused_sheet_stands_beside_its_line() {
     let sheet = Sheet { account: 4711, ..placed(&[leg("L60c"), leg("S50c")], &[0]) };

@@ -3,125 +3,14 @@
 
 #![forbid(unsafe_code)]
 
+mod machine;
 #[path = "../common/scripts.rs"]
 mod scripts;
 
 use std::fs;
-use std::path::{Path, PathBuf};
-use std::process::{Command, Stdio};
 
-use scripts::{put_script, put_tools, told, Folder, Told};
-
-const TOOLS: [&str; 13] =
-    ["awk", "bash", "cat", "cp", "dirname", "env", "mkdir", "mktemp", "nproc", "rm", "sed", "tail", "tee"];
-const SCRIPTS: [&str; 6] = [
-    ".ci/run",
-    "host/x86-cargo",
-    "host/native-library",
-    "host/run-tests",
-    "host/shared-library",
-    "host/python/run-tests",
-];
-const PACKAGES: &str = "cargo rustc gcc g++ libc6-dev";
-const CARGO: &str = "case \"$*\" in\n\
-                     --version) echo cargo 1 ;;\n\
-                     *--no-run*) ;;\n\
-                     *) echo 'test result: ok. 2 passed; 0 failed;' ;;\n\
-                     esac";
-
-/// A clone with the scripts of the set-up, on a machine that has all it takes.
-struct Machine {
-    folder: Folder,
-}
-
-impl Machine {
-    fn whole(name: &str) -> Machine {
-        let machine = Machine { folder: Folder::new(&format!("set-up-{name}")) };
-        let root = Path::new(env!("CARGO_MANIFEST_DIR")).join("..");
-        for folder in ["clone/.ci", "clone/host/python", "packages", "temporary"] {
-            fs::create_dir_all(machine.beside(folder)).expect("a folder");
-        }
-        for file in SCRIPTS {
-            fs::copy(root.join(file), machine.beside("clone").join(file)).expect("a script");
-        }
-        put_tools(&machine.beside("tools"), &TOOLS);
-        put_script(&machine.beside("clone/sheet"), "[ \"$1\" != check ] || echo ACCEPT 2 1500000");
-        let laws = machine.told_to("laws", "echo '0 passed, 0 failed'");
-        put_script(&machine.beside("clone/.ci/laws"), &laws);
-        put_script(
-            &machine.beside("clone/.ci/edits"),
-            &machine.told_to("edits", "echo '4 passed, 0 failed'"),
-        );
-        machine.put("uname", "echo x86_64");
-        machine.put("id", "echo 0");
-        machine.put("rt", &machine.told_to("rt", "[ \"$1\" != ci ] || echo '3 passed, 0 failed'"));
-        machine.put("cargo", CARGO);
-        machine.put("rustc", "echo rustc 1");
-        machine.put("cc", "cat >/dev/null");
-        machine.put("c++", "cat >/dev/null");
-        machine.put("valgrind", "true");
-        machine.put("chromium", "exit 0");
-        for name in ["cargo", "rustc", "cc", "c++", "chromium"] {
-            fs::copy(machine.tool(name), machine.beside("packages").join(name)).expect("a package");
-        }
-        let install = format!(
-            "[ \"$1\" = update ] || cp '{}'/* '{}'",
-            machine.beside("packages").display(),
-            machine.beside("tools").display()
-        );
-        machine.put("apt-get", &machine.told_to("apt-get", &install));
-        machine
-    }
-
-    fn without(name: &str, missing: &[&str]) -> Machine {
-        let machine = Machine::whole(name);
-        for tool in missing {
-            fs::remove_file(machine.tool(tool)).expect("it was there");
-        }
-        machine
-    }
-
-    fn beside(&self, name: &str) -> PathBuf {
-        self.folder.0.join(name)
-    }
-
-    fn tool(&self, name: &str) -> PathBuf {
-        self.beside("tools").join(name)
-    }
-
-    fn put(&self, name: &str, text: &str) {
-        put_script(&self.tool(name), text);
-    }
-
-    /// A stand-in that first writes down what it was asked.
-    fn told_to(&self, name: &str, then: &str) -> String {
-        format!("echo \"{name} $*\" >>'{}'\n{then}", self.beside("asked").display())
-    }
-
-    /// What stand-ins were asked, one after the other.
-    fn asked(&self) -> Vec<String> {
-        let asked = fs::read_to_string(self.beside("asked")).unwrap_or_default();
-        asked.lines().map(String::from).collect()
-    }
-
-    fn run(&self, script: &str, arguments: &[&str]) -> Told {
-        let mut command = Command::new(self.beside("clone").join(script));
-        command.env_clear().env("PATH", self.beside("tools")).env("TMPDIR", self.beside("temporary"));
-        told(command.args(arguments).stdin(Stdio::null()).output().expect("the script runs"))
-    }
-
-    fn gate(&self) -> Told {
-        let run = self.run(".ci/run", &[]);
-        let left = fs::read_dir(self.beside("temporary")).expect("a folder").count();
-        assert_eq!(left, 0, "nothing is left behind");
-        run
-    }
-}
-
-/// The last line of standard output, the status, and standard error.
-fn ending(run: &Told) -> (&str, i32, &str) {
-    (run.out.lines().last().unwrap_or(""), run.status, run.err.as_str())
-}
+use machine::{ending, Machine, CARGO, PACKAGES};
+use scripts::put_script;
 
 const NOT_BEGUN: &str = "0 passed, 1 failed";
 const PARTS: [&str; 5] = ["laws ", "rt fmt --check", "rt ci", "edits ", "rt staticlib usm_c"];
@@ -254,12 +143,15 @@ fn the_last_line_counts_what_failed() {
     assert_eq!(ending(&machine.gate()), ("14 passed, 1 failed", 1, ""));
 }
 
+const NO_PYTHON: &str = "The Python tests were left out: python3 is not on the path.";
+
 /// A browser is nothing that the gate needs: where there is none, the test that asks for it is left out, and that
 /// is said at the end.
 #[test]
 fn root_gets_a_browser_and_others_are_told_that_its_test_is_left_out() {
-    let left_out =
-        "run-tests: without a browser nobody looks at the pages: that test is left out\n6 passed, 0 failed\n";
+    let left_out = &format!(
+        "run-tests: without a browser nobody looks at the pages: that test is left out\n{NO_PYTHON}\n6 passed, 0 failed\n"
+    );
     let install = "apt-get install -y --no-install-recommends chromium";
 
     let machine = Machine::without("browser", &["chromium"]);
@@ -289,14 +181,33 @@ fn root_gets_a_browser_and_others_are_told_that_its_test_is_left_out() {
     assert!(run.out.ends_with(left_out) && run.status == 0, "{}", run.out);
 }
 
+#[test]
+fn root_gets_valgrind_and_what_is_left_out_without_it_is_said_at_the_end_once() {
+    let install = "apt-get install -y --no-install-recommends valgrind";
+    let machine = Machine::without("valgrind", &["valgrind"]);
+    let run = machine.run("host/run-tests", &[]);
+    assert!(run.out.starts_with("run-tests: installing valgrind\n"), "{}", run.out);
+    assert_eq!((machine.asked(), run.status), (vec![String::from("apt-get update"), install.into()], 0));
+
+    let machine = Machine::without("no-valgrind", &["valgrind"]);
+    machine.put("id", "echo 1000");
+    let missing = "left out, nothing was tried under valgrind: it is not there";
+    machine.put("cargo", &CARGO.replace("*) echo", &format!("*) echo '{missing}'; echo '{missing}'; echo")));
+    let run = machine.run("host/run-tests", &[]);
+    let named = format!("run-tests: there is no valgrind; as root, on Debian: apt-get update && {install}\n");
+    assert!(run.out.starts_with(&named), "{}", run.out);
+    // Two of each of the three times that cargo runs tests, and the one of the end.
+    assert_eq!(run.out.lines().filter(|line| *line == missing).count(), 7, "{}", run.out);
+    let end: Vec<&str> = run.out.lines().rev().take(3).collect();
+    assert!(end.contains(&missing) && end.contains(&NO_PYTHON), "{}", run.out);
+    assert_eq!((end[0], run.status), ("6 passed, 0 failed", 0));
+}
+
 /// Without python3, as on the machines above, they are left out, and that is said.
 #[test]
 fn the_tests_of_python_are_counted_where_it_is_there() {
     let said = |machine: &Machine, words: &str| machine.gate().out.lines().any(|line| line.contains(words));
-    assert!(said(
-        &Machine::whole("no-python"),
-        "The Python tests were left out: python3 is not on the path."
-    ));
+    assert!(said(&Machine::whole("no-python"), NO_PYTHON));
     let machine = Machine::whole("python");
     machine.put("python3", "echo 'test result: ok. 5 passed; 0 failed;'");
     assert!(said(&machine, "The Python tests were left out: there is no library for this machine itself"));

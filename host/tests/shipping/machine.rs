@@ -9,7 +9,7 @@ use crate::compiled::{library, package};
 use crate::scripts::{as_anyone, on_path, put_tools, told, Told};
 
 /// All that is installed but the links and, where there is no shared library, what goes with it.
-pub const INSTALLED: [(&str, u32); 13] = [
+pub const INSTALLED: [(&str, u32); 14] = [
     ("bin/sheet", 0o755),
     ("bin/usm_check", 0o755),
     ("bin/usm_table", 0o755),
@@ -21,6 +21,7 @@ pub const INSTALLED: [(&str, u32); 13] = [
     ("lib/python3/dist-packages/usm/__init__.py", 0o644),
     ("lib/python3/dist-packages/usm/py.typed", 0o644),
     ("share/doc/usm/RULES.md", 0o644),
+    ("share/doc/usm/JSON.md", 0o644),
     ("share/doc/usm/CHANGELOG.md", 0o644),
     ("share/doc/usm/example.c", 0o644),
 ];

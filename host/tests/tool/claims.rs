@@ -77,6 +77,43 @@ fn a_text_stays_a_text_unless_a_sheet_file_is_asked_for() {
 }
 
 #[test]
+fn a_name_in_capitals_asks_for_a_sheet_file_too() {
+    let folder = folder("tool-claim-capitals");
+    assert_eq!(told(run(&folder, &["claim", "-", "OUT.USM"], VERTICAL.as_bytes())).0, 0);
+    let made = fs::read(folder.join("OUT.USM")).expect("written");
+    assert_eq!(usm::file_line(&made), "ACCEPT 1 1000000\n");
+}
+
+#[test]
+fn a_text_without_a_record_is_refused() {
+    let folder = folder("tool-claim-empty");
+    let empty = "sheet: -: there is no record in it, and an empty sheet has no file\n";
+    for text in ["", "# nothing\n", "account 7\nholdings\nplacement\nclaims\n"] {
+        for out in ["-", "out.txt", "out.usm"] {
+            let told = told(run(&folder, &["claim", "-", out], text.as_bytes()));
+            assert_eq!(told, (2, String::new(), empty.into()), "{text:?}");
+        }
+    }
+    assert!(names_in(&folder).is_empty());
+}
+
+#[test]
+fn comments_that_a_text_loses_are_told() {
+    let folder = folder("tool-claim-comments");
+    let total = "-: 1 claim, total margin $1,000.000 (1000000 mills)\n";
+    let bare = VERTICAL.split_once('\n').expect("lines").1;
+    let noted = VERTICAL.replace("claim 1 1000000", "claim 1 1000000 # as agreed");
+    let left_out = format!("-: its comments are left out\n{total}");
+    for (text, said) in [(VERTICAL, left_out.as_str()), (&noted, &left_out), (bare, total)] {
+        let (status, claimed, found) = told(run(&folder, &["claim", "-", "-"], text.as_bytes()));
+        assert_eq!((status, claimed.contains('#'), found.as_str()), (0, false, said));
+    }
+    // A sheet file has no place for any.
+    let file = told(run(&folder, &["claim", "-", "out.usm"], VERTICAL.as_bytes()));
+    assert_eq!(file, (0, String::new(), total.into()));
+}
+
+#[test]
 fn a_group_without_a_margin_is_told_and_nothing_is_written() {
     let folder = folder("tool-claim-none");
     let legs = [leg("L50p"), leg("S60p"), in_group(4, times(2, "S65c")), in_group(4, leg("L70c"))];
@@ -116,15 +153,19 @@ fn a_claim_may_be_in_dollars() {
         let file = fs::read(folder.join("out.usm")).expect("made");
         assert_eq!(usm::file_line(&file), "ACCEPT 1 1000000\n", "{claim}");
     }
-    for (claim, mills) in [("1", "1 mill, which is $0.001"), ("999", "999 mills, which is $0.999")] {
+    for (claim, mills) in [
+        ("1", "1 mill, which is $0.001"),
+        ("999", "999 mills, which is $0.999"),
+        ("1000", "1,000 mills, which is $1.000"),
+    ] {
         let warning = format!(
             "-: warning: group 1 claims {mills}, and its margin is $1,000.000 (1000000 mills); strikes are in dollars, \
              and claims in mills, or in dollars behind a `$`, as $1,000.000\n"
         );
         assert_eq!(made(claim), (0, String::new(), warning), "{claim}");
     }
-    // Neither 0 nor a dollar is warned of, nor a claim that is just right.
-    assert_eq!(["0", "1000"].map(made), [(); 2].map(|()| (0, String::new(), String::new())));
+    // Neither 0 is warned of, nor a dollar where the margin is not 1,000 times it, nor a claim that is just right.
+    assert_eq!(["0", "1001"].map(made), [(); 2].map(|()| (0, String::new(), String::new())));
     let least = placed(&[leg("S50c"), usm::Leg { strike: 50_004, ..leg("L50c") }], &[400]);
     let told_of = told(run(&folder, &["make", "-", "out.usm", "--force"], text::show(&least).as_bytes()));
     assert_eq!(told_of, (0, String::new(), String::new()));

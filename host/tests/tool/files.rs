@@ -5,6 +5,7 @@ use std::fs;
 use std::os::unix::ffi::OsStrExt;
 use std::os::unix::fs::symlink;
 use std::path::{Path, PathBuf};
+use std::process::Command;
 
 use usm::accounts::{leg, placed};
 use usm::block::BLOCK_BYTES;
@@ -57,6 +58,35 @@ fn a_folder_stands_for_the_sheet_files_in_it() {
 }
 
 #[test]
+fn in_a_folder_the_ending_may_be_in_capitals() {
+    let folder = common::folder("tool-folder-capitals");
+    fs::create_dir(folder.join("all")).expect("a folder");
+    for name in ["all/A.USM", "all/b.Usm", "all/c.usm.txt"] {
+        fs::write(folder.join(name), file(0, 1_000_000)).expect("a file");
+    }
+    let (status, lines, _) = told(run(&folder, &["check", "all"], b""));
+    let both = "all/A.USM: ACCEPT 1 1000000\nall/b.Usm: ACCEPT 1 1000000\n";
+    assert_eq!((status, lines.as_str()), (0, both));
+}
+
+/// A pipe that nobody writes to would never end.
+#[test]
+fn in_a_folder_only_regular_files_are_read() {
+    let folder = folder("tool-folder-pipe");
+    let made = Command::new("mkfifo").arg(folder.join("all/pipe.usm")).status().expect("mkfifo runs");
+    assert!(made.success());
+    symlink("more", folder.join("all/link.usm")).expect("a link");
+    symlink("b.usm", folder.join("all/to-b.usm")).expect("a link");
+    let (status, lines, said) = told(run(&folder, &["check", "all"], b""));
+    assert_eq!((status, lines), (2, format!("{LINES}all/to-b.usm: ACCEPT 1 1000000\n")));
+    for name in ["all/link.usm", "all/pipe.usm"] {
+        let unread = format!("sheet: {name}: is no regular file");
+        assert_eq!(said.lines().filter(|line| *line == unread).count(), 1, "{said}");
+    }
+    assert!(said.contains("\n3 accepted, 1 refused, 2 not read; "), "{said}");
+}
+
+#[test]
 fn a_list_names_files_by_lines_or_by_zero_bytes() {
     let folder = folder("tool-list");
     let names = ["all/b.usm", "all/c.usm", "all/more"];
@@ -105,6 +135,21 @@ fn a_list_without_a_name_is_told() {
     let (status, lines, message) = told(run(&folder, &["check", "--files-from", "none"], b""));
     assert_eq!((status, lines.as_str()), (2, ""));
     assert!(message.starts_with("sheet: none: cannot be read: "), "{message}");
+}
+
+#[test]
+fn a_sheet_file_is_no_list() {
+    let folder = folder("tool-list-sheet");
+    for file in ["all/b.usm", "all/c.usm"] {
+        let message = format!("{file}: is a sheet file, and no list of names");
+        assert_undone(&folder, &["check", "--files-from", file], b"", &message);
+    }
+    // A name may begin as a sheet file does.
+    fs::rename(folder.join("all/b.usm"), folder.join("USM1.usm")).expect("moved");
+    for list in [&b"USM1.usm\n"[..], b"USM1.usm\0"] {
+        let (status, lines, _) = told(run(&folder, &["check", "--files-from", "-"], list));
+        assert_eq!((status, lines.as_str()), (0, "USM1.usm: ACCEPT 1 1000000\n"));
+    }
 }
 
 #[test]

@@ -83,6 +83,21 @@ fn the_account_goes_with_the_holdings() {
     assert_eq!((status, said), (0, format!("{account}1 played, 0 refused; the holdings have 1 record\n")));
 }
 
+/// The object has no key for it.
+#[test]
+fn what_is_left_out_is_told_beside_an_object() {
+    let folder = folder("tool-play-json-left-out");
+    fs::write(folder.join("fills.txt"), "fills\n").expect("a text");
+    let sheet = format!("account 7\n{VERTICAL}");
+    let played = |out: &str| told(run(&folder, &["play", "-", "fills.txt", out, "--json"], sheet.as_bytes()));
+    let left_out = "-: its placement and its claims are left out\n";
+    let (status, object, said) = played("out.txt");
+    assert_eq!((status, object.lines().count(), said.as_str()), (0, 1, left_out));
+    let (status, object, said) = played("out.csv");
+    let account = "-: its account, 7, is left out: a CSV does not say it\n";
+    assert_eq!((status, object.lines().count(), said), (0, 1, format!("{left_out}{account}")));
+}
+
 #[test]
 fn what_cannot_be_played_writes_nothing() {
     let folder = folder("tool-play-wrong");

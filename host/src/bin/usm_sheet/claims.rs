@@ -8,9 +8,9 @@ use usm::program::{self, shown};
 use usm::{Claim, Refusal, Sheet};
 
 use crate::groups::no_spread;
-use crate::input::sheet_and_kind;
+use crate::input::{sheet_and_kind, Kind};
 use crate::inputs::not_over_itself;
-use crate::make::{made, write};
+use crate::make::{made, stays_text, write};
 
 /// Writes the sheet with each group's margin as its claim, and tells what changed. Where a group has no margin
 /// nothing is written, and it is told why.
@@ -26,6 +26,9 @@ pub fn claim(name: &OsStr, out_name: &OsStr, force: bool) -> Result<ExitCode, St
     let mut claimed = sheet.clone();
     claimed.claim_margins().map_err(|refusal| format!("{}: {}", shown(name), no_spread(&sheet, &refusal)))?;
     write(out_name, &made(&claimed, kind, name, out_name)?, force)?;
+    if kind == (Kind::Text { comments: true }) && stays_text(kind, out_name) {
+        tell("its comments are left out");
+    }
     changes(&sheet.claims, &claimed.claims).iter().for_each(|change| tell(change));
     let total: i128 = claimed.claims.iter().map(|claim| i128::from(claim.margin)).sum();
     tell(&format!("{}, total margin {}", count(claimed.claims.len() as u64, "claim"), amount(total)));

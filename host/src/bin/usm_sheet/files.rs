@@ -7,8 +7,9 @@ use std::os::unix::ffi::OsStrExt;
 use std::path::{Path, PathBuf};
 
 use usm::program::shown;
+use usm::Form;
 
-use crate::input::read_into;
+use crate::input::{is_sheet_file, read_into};
 
 /// Longer lists are none: a path has at most 4,096 bytes, and so there is room for 16,384 of the longest.
 const LONGEST_NAMES: usize = 1 << 26;
@@ -52,6 +53,9 @@ fn names_in(list: &OsStr) -> Result<Vec<OsString>, String> {
     if bytes.len() > LONGEST_NAMES {
         return Err(format!("{}: has more than {LONGEST_NAMES} bytes and is no list of names", shown(list)));
     }
+    if is_sheet(&bytes) {
+        return Err(format!("{}: is a sheet file, and no list of names", shown(list)));
+    }
     let name = |bytes: &[u8]| OsStr::from_bytes(bytes).to_os_string();
     let names: Vec<OsString> = if bytes.contains(&0) {
         bytes.split(|byte| *byte == 0).map(name).collect()
@@ -62,6 +66,11 @@ fn names_in(list: &OsStr) -> Result<Vec<OsString>, String> {
             .collect()
     };
     Ok(names.into_iter().filter(|name| !name.is_empty()).collect())
+}
+
+/// Whether a sheet file begins so. A name may begin with the mark, too; behind it a block has the number of its table.
+fn is_sheet(bytes: &[u8]) -> bool {
+    Form::of_block(bytes).is_some() && matches!(bytes.get(Form::Old.mark().len()), Some(1..=3))
 }
 
 /// The file of this name, or where it is a folder, the sheet files in it.
@@ -91,9 +100,17 @@ fn sheet_files(folder: &Path, asked: &mut Vec<Asked>) {
     for (path, is_folder) in entries {
         if is_folder {
             sheet_files(&path, asked);
-        } else if path.extension().map_or(false, |ending| ending == "usm") {
-            asked.push(Asked::File(path.into_os_string()));
+        } else if is_sheet_file(path.as_os_str()) {
+            asked.push(regular_file(path));
         }
+    }
+}
+
+/// A file that was found in a folder. Nobody named it, so a pipe is not waited for.
+fn regular_file(path: PathBuf) -> Asked {
+    match fs::metadata(&path) {
+        Ok(about) if !about.is_file() => nothing(path.as_os_str(), "is no regular file"),
+        _ => Asked::File(path.into_os_string()),
     }
 }
 

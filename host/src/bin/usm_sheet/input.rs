@@ -48,16 +48,18 @@ fn sheet_in(name: &OsStr, file: &[u8]) -> Result<(Sheet, Origin), String> {
 #[derive(Clone, Copy, PartialEq, Eq)]
 pub enum Kind {
     File,
-    Text,
+    Text { comments: bool },
 }
 
 /// The sheet in a file or in a text. The blocks of a file have zero bytes, and a text has none.
 pub fn sheet_and_kind(name: &OsStr) -> Result<(Sheet, Kind), String> {
     let bytes = read_bytes(name)?;
-    match bytes.contains(&0) {
-        true => sheet_in(name, &bytes).map(|(sheet, _)| (sheet, Kind::File)),
-        false => Ok((text_sheet(name, text_in(name, bytes)?)?, Kind::Text)),
+    if bytes.contains(&0) {
+        return sheet_in(name, &bytes).map(|(sheet, _)| (sheet, Kind::File));
     }
+    let text = text_in(name, bytes)?;
+    let kind = Kind::Text { comments: text.contains('#') };
+    Ok((text_sheet(name, text)?, kind))
 }
 
 fn text_sheet(name: &OsStr, text: String) -> Result<Sheet, String> {
@@ -66,7 +68,16 @@ fn text_sheet(name: &OsStr, text: String) -> Result<Sheet, String> {
 
 /// Whether a name says that the file is a CSV.
 pub fn is_csv(name: &OsStr) -> bool {
-    Path::new(name).extension().map_or(false, |ending| ending.eq_ignore_ascii_case("csv"))
+    ends_in(name, "csv")
+}
+
+/// Whether a name says that the file is a sheet file.
+pub fn is_sheet_file(name: &OsStr) -> bool {
+    ends_in(name, "usm")
+}
+
+fn ends_in(name: &OsStr, ending: &str) -> bool {
+    Path::new(name).extension().map_or(false, |found| found.eq_ignore_ascii_case(ending))
 }
 
 /// A table of a CSV, read by `parse`.

@@ -1,13 +1,12 @@
 //! From a text or from CSVs to a sheet file, and back.
 
 use std::ffi::OsStr;
-use std::path::Path;
 use std::process::ExitCode;
 
 use usm::program::{self, shown};
 use usm::{csv, sentences, text, Leg, Sheet};
 
-use crate::input::{csv_table, holdings_in, is_csv, sheet, Kind};
+use crate::input::{csv_table, holdings_in, is_csv, is_sheet_file, sheet, Kind};
 use crate::inputs::{not_over_itself, two_inputs};
 use crate::output::Output;
 use crate::warnings::tell_of_small;
@@ -45,10 +44,17 @@ pub fn make_of_tables(
 
 /// A sheet as what the name asks for by its ending, or else as what it was read from.
 pub fn made(sheet: &Sheet, kind: Kind, name: &OsStr, out_name: &OsStr) -> Result<Vec<u8>, String> {
-    match kind {
-        Kind::Text if !is_sheet_file(out_name) => Ok(text::show(sheet).into_bytes()),
-        _ => file_of(sheet, name),
-    }
+    // What has no file is no sheet as a text, either.
+    let file = file_of(sheet, name)?;
+    Ok(match stays_text(kind, out_name) {
+        true => text::show(sheet).into_bytes(),
+        false => file,
+    })
+}
+
+/// Whether what is made of a text is one again.
+pub fn stays_text(kind: Kind, out_name: &OsStr) -> bool {
+    matches!(kind, Kind::Text { .. }) && !is_sheet_file(out_name)
 }
 
 /// Holdings as what the name asks for by its ending: a sheet file, a CSV, or else a text.
@@ -66,11 +72,6 @@ pub fn made_holdings(
         false => text::show_held(account, &holdings),
     }
     .into_bytes())
-}
-
-/// Whether a name says that a sheet file is to be written.
-fn is_sheet_file(name: &OsStr) -> bool {
-    Path::new(name).extension().map_or(false, |ending| ending == "usm")
 }
 
 /// The file of a sheet that was read under this name.

@@ -31,6 +31,7 @@ pub fn play(names: &Names, force: bool, json: bool) -> Result<ExitCode, String> 
     })?;
     let made = made_holdings(yesterday.account, played.holdings.clone(), names.holdings, names.out)?;
     write(names.out, &made, force)?;
+    tell_lost(names, &yesterday);
     match json {
         true => print(&object(names, &yesterday, &fills, &played).line())?,
         false => tell(names, &yesterday, &fills, &played),
@@ -48,11 +49,15 @@ fn sentences_of<'a>(
     refused.map(|refusal| (refusal, sentences::of_fills(&yesterday.holdings, fills, refusal)))
 }
 
-fn tell(names: &Names, yesterday: &Sheet, fills: &[Fill], played: &Played) -> ExitCode {
+/// What of the sheet is not in what is written; the object has no key for it, and so it is told beside one, too.
+fn tell_lost(names: &Names, yesterday: &Sheet) {
     tell_left_out(names.holdings, yesterday);
     if is_csv(names.out) {
         tell_account_left_out(names.holdings, yesterday.account);
     }
+}
+
+fn tell(names: &Names, yesterday: &Sheet, fills: &[Fill], played: &Played) -> ExitCode {
     for (refusal, sentence) in sentences_of(yesterday, fills, played) {
         program::tell(&format!("{}: refusal {}: {sentence}", shown(names.fills), refusal.number));
     }

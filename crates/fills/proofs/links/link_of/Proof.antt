@@ -13,21 +13,22 @@ use Rattle.fills.proofs.links.link_of.Statement.{statement}
 use Rattle.fills.proofs.links.link_of.Tie as tie
 
 abbrev Inv-loop : tie.InvT-loop
-Inv-loop leg holdings fills held links link₀ link =
-    (link < 2301)
-    × ((e : ℕ) → Path links link e → Path links (bucketOf leg) e)
-    × ((k : ℕ) → Leads links (bucketOf leg) k → isRow (legIn holdings fills) held leg k ≡ true → Leads links link k)
+Inv-loop holdings fills k held links leg link₀ link =
+    (link < 2304)
+    × ((e : ℕ) → Path links link e → Path links (bucketOf (legIn holdings fills k)) e)
+    × ((i : ℕ) → Leads links (bucketOf (legIn holdings fills k)) i → isRow (legIn holdings fills) held (legIn holdings fills k) i ≡ true → Leads links link i)
 
 abbrev μ-loop : tie.MeasureT-loop
-μ-loop leg holdings fills held links link₀ link = length links - link
+μ-loop holdings fills k held links leg link₀ link = length links - link
 
 abbrev start : tie.At-loop Inv-loop μ-loop → tie.Start Inv-loop μ-loop
-start l = l .before .before .before .before .before .before
+start l = l .before .before .before .before .before .before .before
 
 loop-holds : tie.Need-loop-holds Inv-loop μ-loop
 loop-holds c =
     let b = c .bucket-of .ensures in
-    (omega (arith, b .1), λ e p. rw (sym (b .0)) p, λ k d t. rw (b .0) d)
+    let q = b .0 ∙ ap bucketOf (c .before .leg-in .ensures) in
+    (omega (arith, b .1), λ e p. rw (sym q) p, λ i d t. rw q d)
 
 -- the record that the link leads to
 linked : (c : tie.Else1 Inv-loop μ-loop)
@@ -43,19 +44,27 @@ linked c =
 -- links rise
 rises : (c : tie.Else1 Inv-loop μ-loop)
     → (let w = c .before in
-    (w .wide .result - 1 < 1280) × (w .before .before .loop .link < 1021 + (w .wide .result - 1)))
+    (w .wide .result - 1 < 1280) × (w .before .before .loop .link < 1024 + (w .wide .result - 1)))
 rises c =
     let w = c .before in
     let l = w .before .before in
     start l .pre .1 (l .loop .link) (w .wide .result - 1) (linked c)
 
+-- what is asked of a record
+abbrev asked : tie.At-loop Inv-loop μ-loop → ℕ → Bool
+asked l =
+    let a = start l .args in
+    isRow (legIn (now (a .holdings)) (now (a .fills))) (now (a .held)) (legIn (now (a .holdings)) (now (a .fills)) (a .k))
+
 -- what the test says of the record that the link leads to
 tested : (c : tie.After-same-line-side Inv-loop μ-loop) (b : Bool)
     → (let w = c .before .before .before .before in
-    let a = start (w .before .before) .args in
-    (not (eqb (getD (now (a .held)) (w .wide .result - 1) 0) 0) && c .same-line-side .result ≡ b)
-    → isRow (legIn (now (a .holdings)) (now (a .fills))) (now (a .held)) (a .leg) (w .wide .result - 1) ≡ b)
-tested c b e = rw (sym (c .before .leg-in .ensures), sym (c .same-line-side .ensures)) e
+    let l = w .before .before in
+    (not (eqb (getD (now (start l .args .held)) (w .wide .result - 1) 0) 0) && c .same-line-side .result ≡ b)
+    → asked l (w .wide .result - 1) ≡ b)
+tested c b e =
+    let l = c .before .before .before .before .before .before in
+    rw (sym (l .before .before .leg-in .ensures), sym (c .before .leg-in2 .ensures), sym (c .same-line-side .ensures)) e
 
 returns : tie.Need-returns Inv-loop μ-loop
 returns c =
@@ -73,12 +82,11 @@ returns-2 c =
     let e = c .before .before .before .before in
     let w = e .before in
     let l = w .before .before in
-    let a = start l .args in
     record {
       path = l .loop .inv .1 (l .loop .link) (links-of.stop refl);
       found =
           λ i s. (let same : i ≡ w .wide .result - 1 = omega (arith, linked e, s) in
-          ap (isRow (legIn (now (a .holdings)) (now (a .fills))) (now (a .held)) (a .leg)) same ∙ tested (c .before) _ (c .if2 .taken));
+          ap (asked l) same ∙ tested (c .before) _ (c .if2 .taken));
       none = λ f. absurd (omega (arith, linked e, f));
     }
 
@@ -86,12 +94,11 @@ loop-again : tie.Need-loop-again Inv-loop μ-loop
 loop-again c =
     let e = c .before .before .before .before in
     let w = e .before in
-    let l = w .before .before in
-    let a = start l .args in (
+    let l = w .before .before in (
       omega (arith, rises e .0),
       λ at p. l .loop .inv .1 at (links-of.on (w .wide .result - 1) (linked e) p),
       λ k d t. leads-on (w .wide .result - 1) k (linked e)
-          (λ q. false≢true (sym (tested (c .before) _ (c .if2 .left)) ∙ ap (isRow (legIn (now (a .holdings)) (now (a .fills))) (now (a .held)) (a .leg)) (sym q) ∙ t))
+          (λ q. false≢true (sym (tested (c .before) _ (c .if2 .left)) ∙ ap (asked l) (sym q) ∙ t))
           (l .loop .inv .2 k d t),
     )
 
@@ -101,6 +108,7 @@ link-of-spec =
     (tie.spec
     Inv-loop
     μ-loop
+    (λ c κs. search needs)
     (λ c κs. search needs)
     loop-holds
     (λ c. omega arith)

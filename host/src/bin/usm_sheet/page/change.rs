@@ -91,8 +91,8 @@ fn unplaced(sheet: &Sheet, refusal: &Refusal) -> Option<String> {
     Some(String::from(match leg.side {
         Side::Short => "The short would have to stand in a group that is a spread with it.",
         Side::Long => {
-            "The long would have to stand in a group; or, if it is paid for in full, be marked as paid, which \
-             `sheet mark-paid FILE OUT` does."
+            "The long would have to stand in a group; or, if it is paid for in full, be marked as paid. \
+             `sheet mark-paid FILE OUT` marks every unplaced long of the sheet."
         }
     }))
 }

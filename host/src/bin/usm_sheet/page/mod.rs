@@ -15,15 +15,16 @@ mod sheets;
 mod table;
 
 use std::ffi::{OsStr, OsString};
-use std::path::Path;
+use std::fs;
 use std::process::ExitCode;
 
 use usm::program::{self, shown};
-use usm::LONGEST_FILE;
+use usm::{Form, LONGEST_FILE};
 
 use crate::check::{judge, Tally};
 use crate::files::asked;
 use crate::found::Found;
+use crate::input::{is_sheet_file, read_into};
 use crate::inputs::same_file;
 use crate::make::write;
 use sheets::Told;
@@ -59,12 +60,26 @@ fn unread(found: &Found) -> Option<String> {
 
 /// The page is the last name. Where it was forgotten, the last sheet file is not written over.
 fn check_name(names: &[OsString], out_name: &OsStr) -> Result<(), String> {
-    let is_sheet = Path::new(out_name).extension().map_or(false, |ending| ending == "usm");
-    if is_sheet || names.iter().any(|name| same_file(name, out_name)) {
+    if is_sheet_file(out_name) || names.iter().any(|name| same_file(name, out_name)) {
         return Err(format!(
             "{}: is the name of a sheet; behind the sheets comes the name of the page, as page.html",
             shown(out_name)
         ));
     }
-    Ok(())
+    match has_mark(out_name) {
+        true => Err(format!(
+            "{}: is a sheet file, and is not written over; name another file for the page, as page.html",
+            shown(out_name)
+        )),
+        false => Ok(()),
+    }
+}
+
+/// Whether a file is there that begins as a sheet file does. Only of a regular one is anything read: a pipe would wait.
+fn has_mark(name: &OsStr) -> bool {
+    let mut start = Vec::new();
+    name != "-"
+        && fs::metadata(name).map_or(false, |about| about.is_file())
+        && read_into(&mut start, name, Form::Old.mark().len()).is_ok()
+        && Form::of_block(&start).is_some()
 }
