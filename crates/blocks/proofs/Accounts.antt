@@ -33,7 +33,7 @@ use Rattle.blocks.proofs.BlockLaws.{origin-is, number-is}
 use Rattle.blocks.proofs.FileLaws.{Passed, block-passed, whole-file, earlier, length-earlier, blocksFrom, blocks-all, blocks-step}
 use Rattle.blocks.proofs.ScanLaws.{by-tests}
 use Rattle.blocks.proofs.GoodBlocks.{first-passed, read-good, named-back}
-use Rattle.blocks.proofs.ReadLaws.{judge-block, read-refused}
+use Rattle.blocks.proofs.ReadLaws.{scan-whole, judge-scan, read-refused}
 use Rattle.blocks.proofs.FlatLaws.{length-file}
 use Rattle.blocks.proofs.WrittenThenRead.{written-reads-back}
 use Rattle.blocks.proofs.ReadThenWritten.{settled-in, writes-as, read-writes-back}
@@ -72,7 +72,7 @@ refused-at : (f : List ℕ) (r : Refusal) → wholeFile (length f) ≡ true → 
 unfolding scanOf
 refused-at f r w e h p c =
     let s : scanOf f ≡ Refused r = rw e in
-    read-refused f h p c r (judge-block f w r s)
+    read-refused f h p c r (judge-scan f r (sym (scan-whole f w) ∙ s))
 
 -- the checks of a file whose first k blocks are those of one that passes come down to those from block k on
 module _ (F : Frame) (one joined : List ℕ) (n : length joined / 512 ≡ length one / 512) where

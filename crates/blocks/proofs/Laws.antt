@@ -11,7 +11,7 @@ pub use Rattle.blocks.proofs.GoodBlocks.{length-joined, GoodBlocks, who
 pub use Rattle.blocks.proofs.GoodFields.{GoodRecords, pass-good, good-pass, table-of, own-records, good-joined}
 pub use Rattle.blocks.proofs.FlatLaws.{length-file}
 -- what reader, writer and moves answer
-pub use Rattle.blocks.proofs.ReadLaws.{TableBytes, read-bytes, judged-good, judged-refused, copied-room}
+pub use Rattle.blocks.proofs.ReadLaws.{TableBytes, scanned-good, scanned-refused, scanned-blocks, scanned-bytes, copied-room}
 pub use Rattle.blocks.proofs.WriteLaws.{some-not-empty, file-bytes, write-done}
 pub use Rattle.blocks.proofs.MoveLaws.{move-wrote}
 -- round trips, and what a form leaves alone

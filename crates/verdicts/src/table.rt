@@ -135,7 +135,7 @@ fn put_groups(
     next
 }
 
-// The text of a file without a fault, by its tables. Once the sheet is judged the table of the holdings is free for the
+// The text of a file of good blocks, by its tables. Once the sheet is judged the table of the holdings is free for the
 // records of a group, so that no more is cleared.
 fn read_table(counts: Counts, file: &[u8], out: &mut [u8; TABLE_BYTES]) -> usize
     requires { ⌜ HasRecords (now file) counts ⌝ }
@@ -158,7 +158,7 @@ pub fn table_text(file: &[u8], out: &mut [u8; TABLE_BYTES]) -> usize
     ensures { λ r. ⌜ r ≡ length (tableText (now (file .entry))) ⌝ }
     ensures { λ _. ⌜ now (out .exit) ≡ putAt (now (out .entry)) 0 (tableText (now (file .entry))) ⌝ }
 {
-    match blocks::judge_file(file) {
+    match blocks::scan_file(file) {
         Reading::Refused(refusal) => refuse_line(refusal, out),
         Reading::Read(counts, _) => read_table(counts, file, out),
     }
