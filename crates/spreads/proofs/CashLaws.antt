@@ -25,8 +25,8 @@ use Rattle.spreads.specs.Cash.{FitForCash, isFit, cashRule, cashCall, fi
 use Rattle.spreads.specs.Calls.{dueAnswer}
 use Rattle.spreads.specs.Members.{legIn, legsAt}
 use Rattle.spreads.specs.Strikes.{worstLoss}
-use Rattle.spreads.specs.declared.calls.Due.{Due}
-use Rattle.spreads.specs.declared.calls.Due.the-variants.{Mills, Refused}
+use Rattle.spreads.specs.declared.answers.Due.{Due}
+use Rattle.spreads.specs.declared.answers.Due.the-variants.{Mills, Refused}
 use Rattle.spreads.proofs.BoxTest.{one-first}
 use Rattle.spreads.proofs.MemberLaws.{legs-next, legs-end}
 use Rattle.spreads.proofs.RuleLaws.{one-of-to-all, all-to-one-of, rule-to-spread, spread-to-no-refusal}

@@ -23,8 +23,8 @@ use Rattle.spreads.specs.Strikes.{strikesOf, netsOf}
 use Rattle.spreads.specs.Boxes.{marginOf}
 use Rattle.spreads.specs.Calls.{groupChecks, marginCall, listedAnswer, listedAfter, strikesListed, worksheetCall, listLeft, marginsFrom, groupsChecks, marginsCall}
 use Rattle.spreads.specs.Demands.{merged, SpreadJust, RefusalsName, LegsBeside, PointsOnce, StrikesJust, WorstIsGreatest, MarginRight, MarginGiven, MarginsRight, MarginsGiven, WorksheetRight, WorksheetGiven, Leaves, WorksheetLeaves, MarginsLeave, BoxJust, BoxAnyOrder, BoxAnySplit, BoxNets, MarginsJust, FitJust, CashRight, CashGiven, JoiningNeverCosts, JoiningCosts, JoiningLoses, JoinedBoxCosts}
-use Rattle.spreads.specs.declared.calls.Listed.{Listed}
-use Rattle.spreads.specs.declared.calls.Listed.the-variants.{Entries, Refused}
+use Rattle.spreads.specs.declared.answers.Listed.{Listed}
+use Rattle.spreads.specs.declared.answers.Listed.the-variants.{Entries, Refused}
 use Rattle.spreads.proofs.RuleLaws.{rule-to-spread, spread-to-rule, no-refusal-to-spread, spread-to-no-refusal}
 use Rattle.spreads.proofs.Naming.{refusals-name}
 use Rattle.spreads.proofs.Earlier.{legs-beside}

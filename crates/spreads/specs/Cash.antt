@@ -1,7 +1,7 @@
 -- Document 02, request 7: 'Cash accounts'.
 use Prim.Native.Nat.{ℕ}
 use mathlib.Core.Path.{_≡_}
-use mathlib.Core.Bool.{Bool, _&&_, cond}
+use mathlib.Core.Bool.{Bool, _&&_}
 use mathlib.Core.List.{List, [], _∷_, _++_}
 use lib.Dec.{eqb}
 use Rattle.records.specs.Lists.{allOf, All}
@@ -12,9 +12,8 @@ use Rattle.records.specs.declared.legs.Leg.{Leg}
 use Rattle.records.specs.declared.tables.Kind.the-variants.{Placement}
 use Rattle.spreads.specs.Spreads.{oneOf, groupOf, groupIn, groupRule}
 use Rattle.spreads.specs.Strikes.{worstLoss}
-use Rattle.spreads.specs.Boxes.{marginOf}
 use Rattle.spreads.specs.Calls.{dueAnswer}
-use Rattle.spreads.specs.declared.calls.Due.{Due}
+use Rattle.spreads.specs.declared.answers.Due.{Due}
 
 -- ---- a group fit for a cash account, as facts
 
@@ -44,7 +43,3 @@ cashCall xs g = dueAnswer (firstOf (tableChecks Placement xs ++ cashRule g (legs
 -- what is asked of each leg by itself
 unfoldable pub fitsCash : ℕ → Leg → Bool
 fitsCash expiry l = isEuropean l && isCash l && eqb (l .expiry) expiry
-
--- what a group is asked, with the half of [2] or without it
-unfoldable pub requiredOf : Bool → List Leg → ℕ
-requiredOf halved legs = cond halved (marginOf legs) (worstLoss legs)

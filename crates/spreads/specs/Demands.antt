@@ -25,9 +25,9 @@ use Rattle.spreads.specs.Boxes.{LongBox, isLongBox, halfOf, marginOf}
 use Rattle.spreads.specs.Cash.{FitForCash, isFit, cashCall}
 use Rattle.spreads.specs.Bench.{verticals}
 use Rattle.spreads.specs.Calls.{marginCall, worksheetCall, listLeft, marginsFrom, marginsCall}
-use Rattle.spreads.specs.declared.calls.Due.the-variants.{Mills}
-use Rattle.spreads.specs.declared.calls.Listed.{Listed}
-use Rattle.spreads.specs.declared.calls.Listed.the-variants.{Entries, Refused}
+use Rattle.spreads.specs.declared.answers.Due.the-variants.{Mills}
+use Rattle.spreads.specs.declared.answers.Listed.{Listed}
+use Rattle.spreads.specs.declared.answers.Listed.the-variants.{Entries, Refused}
 
 -- 'They are a spread when all hold': just then 6 to 13 refuse nothing
 abbrev pub SpreadJust : Type 0

@@ -6,9 +6,9 @@ use Rattle.records.specs.declared.legs.Leg.{Leg}
 use Rattle.records.specs.declared.refusals.Refusal.{Refusal}
 use Rattle.spreads.specs.Spreads.{groupOf}
 use Rattle.spreads.specs.Strikes.{strikesOf}
-use Rattle.spreads.specs.declared.calls.Listed.{Listed}
-use Rattle.spreads.specs.declared.calls.Listed.the-variants.{Entries, Refused}
-use Rattle.spreads.specs.declared.calls.Priced.{Priced}
+use Rattle.spreads.specs.declared.answers.Listed.{Listed}
+use Rattle.spreads.specs.declared.answers.Listed.the-variants.{Entries, Refused}
+use Rattle.spreads.specs.declared.answers.Priced.{Priced}
 
 -- F 1 + .. + F n
 unfoldable pub total : ℕ → (ℕ → ℕ) → ℕ

@@ -17,8 +17,8 @@ use Rattle.records.specs.declared.legs.Leg.{Leg}
 use Rattle.spreads.specs.Prices.{net}
 use Rattle.spreads.specs.Spreads.{groupIn, groupRule}
 use Rattle.spreads.specs.Strikes.{strikesOf, netsOf}
-use Rattle.spreads.specs.declared.calls.Listed.{Listed}
-use Rattle.spreads.specs.declared.calls.Listed.the-variants.{Entries, Refused}
+use Rattle.spreads.specs.declared.answers.Listed.{Listed}
+use Rattle.spreads.specs.declared.answers.Listed.the-variants.{Entries, Refused}
 use Rattle.spreads.proofs.Laws.{list-in, group-few, strikes-count}
 use Rattle.verdicts.specs.Steps.{Answered}
 
