@@ -1,8 +1,8 @@
 //! The library and the model as two values of one type, to hold them against each other.
 
-use crate::binaries::{binary_margin, binary_pair, Binary, LongBinary};
+use crate::binaries::{binary_margin, binary_pair};
 use crate::form::Origin;
-use crate::records::{Side, Table};
+use crate::records::{Binary, LongBinary, Side, Table};
 use crate::refusal::{Accepted, PlayCounts, RecordCounts, Refusal, SalvageCounts};
 use crate::{calls, model};
 

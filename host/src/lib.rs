@@ -53,9 +53,7 @@ mod refusal;
 mod salvage;
 mod sheet;
 
-pub use binaries::{
-    binary_cell, binary_margin, binary_pair, Binary, Cell, LongBinary, GREATEST_SPREAD, SPREADS, TIMES,
-};
+pub use binaries::{binary_cell, binary_margin, binary_pair, Cell, SPREADS, TIMES};
 pub use block::{BLOCK_BYTES, LONGEST_FILE, MOST_BLOCKS};
 pub use calls::{
     cash, check_file, check_sheet, check_table, export, file_line, file_table, import, margin, margins,
@@ -66,10 +64,10 @@ pub use form::{Form, Origin};
 pub use lists::{holdings_of_list, list_of_holdings, root_table};
 pub use reason::Reason;
 pub use records::{
-    is_expiry, padded_root, Action, Claim, Fill, Leg, Line, Market, OptionType, Root, Series, Settlement,
-    Side, Style, Table, FILLS_TABLE, GREATEST_AMOUNT, GREATEST_STRIKE, GREATEST_UNIT_SIZE, LIST_TABLE,
-    LONGEST_LINE, LONGEST_LIST, MOST_CLAIMS, MOST_CONTRACTS, MOST_FILLS, MOST_LEGS, MOST_LINES, MOST_ROOTS,
-    MOST_WORK, RECORD_BYTES, ROOTS_TABLE, ROOT_BYTES, ROOT_NAME_BYTES,
+    is_expiry, padded_root, Action, Binary, Claim, Fill, Leg, Line, LongBinary, Market, OptionType, Root,
+    Series, Settlement, Side, Style, Table, FILLS_TABLE, GREATEST_AMOUNT, GREATEST_SPREAD, GREATEST_STRIKE,
+    GREATEST_UNIT_SIZE, LIST_TABLE, LONGEST_LINE, LONGEST_LIST, MOST_CLAIMS, MOST_CONTRACTS, MOST_FILLS,
+    MOST_LEGS, MOST_LINES, MOST_ROOTS, MOST_WORK, RECORD_BYTES, ROOTS_TABLE, ROOT_BYTES, ROOT_NAME_BYTES,
 };
 pub use refusal::{Accepted, PlayCounts, RecordCounts, Refusal, SalvageCounts};
 pub use salvage::{salvage_file, Dropped, Salvaged};

@@ -1,7 +1,6 @@
 //! "Credit event binaries": document 02, [11], with the tables of circular RG11-039.
 
-use crate::binaries::{Binary, LongBinary, GREATEST_SPREAD};
-use crate::records::{is_expiry, Side, MOST_CONTRACTS};
+use crate::records::{is_expiry, Binary, LongBinary, Side, GREATEST_SPREAD, MOST_CONTRACTS};
 use crate::refusal::Refusal;
 
 /// The circular's percentages of the settlement value, in tenths: a row for each range of spreads, a column for

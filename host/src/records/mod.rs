@@ -1,11 +1,13 @@
 //! The records of document 01, "Money, units, legs", as Rust values.
 
+mod binary;
 mod claim;
 mod date;
 mod fill;
 mod leg;
 mod root;
 
+pub use binary::{Binary, LongBinary, GREATEST_SPREAD};
 pub use claim::Claim;
 pub use date::is_expiry;
 pub use fill::{Action, Fill, ACTION_AT};

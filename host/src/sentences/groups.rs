@@ -61,6 +61,6 @@ pub fn units(legs: &[Placed], option_type: OptionType) -> (i64, i64) {
 }
 
 /// The legs of a group, with their places.
-pub fn legs_of(placement: &[Leg], group: u64) -> Vec<Placed> {
+pub fn legs_of(placement: &[Leg], group: u64) -> Vec<Placed<'_>> {
     (0..).zip(placement).filter(|(_, leg)| group > 0 && u64::from(leg.group) == group).collect()
 }

@@ -32,7 +32,7 @@ pub fn sentence(placement: &[Leg], place: u64, reason: Reason) -> Option<String>
 }
 
 /// The first leg before the one at this place, in its group, that it does not go with.
-pub fn earlier(placement: &[Leg], place: u64, reason: Reason) -> Option<Placed> {
+pub fn earlier(placement: &[Leg], place: u64, reason: Reason) -> Option<Placed<'_>> {
     let index = usize::try_from(place).ok()?;
     let leg = placement.get(index).filter(|leg| leg.group > 0)?;
     let before = (0..).zip(&placement[..index]).filter(|(_, other)| other.group == leg.group);

@@ -1,6 +1,6 @@
 //! Why a file is not moved to the other form.
 
-use super::of_file;
+use super::files::of_file;
 use crate::form::{Form, Origin};
 use crate::reason::Reason;
 use crate::refusal::Refusal;

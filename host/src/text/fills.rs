@@ -3,10 +3,10 @@
 use std::fmt::Write;
 
 use super::errors::{TextError, TextErrors};
+use super::line::leg_words;
 use super::names::{name_of, ACTIONS};
 use super::parse::{add, each_line};
 use super::record::fill;
-use super::show::leg_words;
 use super::words::Words;
 use crate::records::{Fill, MOST_FILLS};
 

@@ -1,12 +1,37 @@
-//! One record as its words, for sentences: what [`super::show`] prints, without the padding.
+//! One record as its words: padded, as a text shows it, and not, as a sentence quotes it.
 
 use super::names::{name_of, ACTIONS, MARKETS, SETTLEMENTS, SIDES, STYLES, TYPES};
-use super::show::leg_words;
 use crate::fields::{
     get, Field, CONTRACTS, EXPIRY, GROUP, MARKET, PAID, SETTLEMENT, SIDE, STRIKE, STYLE, TYPE, UNDERLYING,
     UNIT_SIZE,
 };
-use crate::records::{Fill, Leg, Market, Side, Style, RECORD_BYTES};
+use crate::records::{Fill, Leg, Market, Settlement, Side, Style, RECORD_BYTES};
+
+/// The words of a leg, padded so that those of one table stand in columns.
+pub fn leg_words(leg: &Leg) -> String {
+    let paid = if leg.paid { " paid" } else { "" };
+    format!(
+        "{:<5} {} {:<4} {} {} unit {} underlying {} {} {}{}{paid}",
+        name_of(leg.side, SIDES),
+        leg.contracts,
+        name_of(leg.option_type, TYPES),
+        strike_text(leg.strike),
+        date_text(leg.expiry),
+        leg.unit_size,
+        leg.underlying,
+        name_of(leg.style, STYLES),
+        name_of(leg.market, MARKETS),
+        settlement_words(leg.settlement),
+    )
+}
+
+/// The settlement behind a blank; one that is not stated has no word.
+pub fn settlement_words(settlement: Settlement) -> String {
+    match settlement {
+        Settlement::NotStated => String::new(),
+        settlement => format!(" {}", name_of(settlement, SETTLEMENTS)),
+    }
+}
 
 /// A leg as it stands in the holdings.
 pub fn leg_text(leg: &Leg) -> String {
@@ -99,7 +124,6 @@ pub fn raw_text(record: &[u8; RECORD_BYTES]) -> String {
 mod tests {
     use super::*;
     use crate::accounts::{in_group, leg};
-    use crate::records::Settlement;
 
     #[test]
     fn a_record_in_range_has_one_text() {

@@ -3,10 +3,10 @@
 use std::fmt::Write;
 
 use super::errors::{TextError, TextErrors};
+use super::line::settlement_words;
 use super::names::{name_of, MARKETS, STYLES};
 use super::parse::{add, each_line};
 use super::record::{settlement, underlying, unit_size};
-use super::show::settlement_words;
 use super::words::Words;
 use crate::records::{padded_root, Root, MOST_ROOTS, ROOT_NAME_BYTES};
 

@@ -4,8 +4,8 @@ use usm::block::{renumber, RECORDS_AT};
 use usm::fields::*;
 use usm::{BLOCK_BYTES, GREATEST_AMOUNT};
 
+use crate::entry::Case;
 use crate::sheets::accepted;
-use crate::Case;
 
 /// Which block of the accepted sheet holds which table.
 const HOLDINGS: usize = 0;

@@ -4,8 +4,8 @@ use usm::accounts::fullest;
 use usm::block::{renumber, seal};
 use usm::{Claim, Sheet, BLOCK_BYTES};
 
+use crate::entry::Case;
 use crate::sheets::accepted;
-use crate::Case;
 
 fn file() -> Vec<u8> {
     accepted().to_file().expect("a file")

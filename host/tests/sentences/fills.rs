@@ -3,7 +3,7 @@
 use usm::accounts::{in_group, leg, times};
 use usm::{play, sentences, Action, Fill, Leg, Refusal};
 
-use crate::entry;
+use crate::entry::entry;
 
 fn held(leg: Leg) -> Leg {
     in_group(0, leg)

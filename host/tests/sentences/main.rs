@@ -4,6 +4,7 @@
 #![forbid(unsafe_code)]
 
 mod binaries;
+mod entry;
 mod fields;
 mod files;
 mod fills;
@@ -20,13 +21,7 @@ use usm::{
     LONGEST_FILE,
 };
 
-/// A name for what is wrong, and a file in which it is.
-type Case = (String, Vec<u8>);
-
-/// Two lines: what is asked, and the sentence below it.
-fn entry(name: &str, refusal: &Refusal, sentence: &str) -> String {
-    format!("{name}: {}  {sentence}\n", refusal.line())
-}
+use entry::{entry, Case};
 
 /// The sentences of refusals by themselves, at places that count from 0 and groups that count from 1.
 fn short() -> String {

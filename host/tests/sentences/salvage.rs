@@ -4,7 +4,7 @@ use usm::accounts::fullest;
 use usm::block::{seal, BLOCK_BYTES, LONGEST_FILE};
 use usm::{salvage_file, sentences, Claim, Dropped, Reason, Refusal, Sheet};
 
-use crate::entry;
+use crate::entry::entry;
 use crate::sheets::accepted;
 
 fn file(account: u64) -> Vec<u8> {

@@ -3,7 +3,7 @@
 use usm::accounts::{in_group, leg, paid, placed, times};
 use usm::{Claim, Leg, Market, Settlement, Sheet, Style};
 
-use crate::Case;
+use crate::entry::Case;
 
 /// P4's legs in two groups: three blocks, all accepted.
 pub fn accepted() -> Sheet {

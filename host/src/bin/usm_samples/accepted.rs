@@ -3,7 +3,7 @@
 use usm::accounts::{in_group, leg, paid, placed, times};
 use usm::{Leg, OptionType, Settlement, Sheet, Style};
 
-use crate::list::{iron_condor, sample, Sample, ACCOUNT};
+use crate::sample::{iron_condor, sample, Sample, ACCOUNT};
 
 /// One group each, and accepted.
 pub fn spreads() -> Vec<Sample> {

@@ -4,7 +4,7 @@ use usm::block::{renumber, seal, ACCOUNT_AT, ACCOUNT_END, BLOCK_BYTES, RECORDS_A
 use usm::fields::{put, EXPIRY, STRIKE};
 use usm::move_to_new;
 
-use crate::list::ACCOUNT;
+use crate::sample::ACCOUNT;
 
 /// A byte of block 1 changes on its way, and the checks tell.
 pub fn damage_a_strike(mut file: Vec<u8>) -> Vec<u8> {

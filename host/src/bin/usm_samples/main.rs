@@ -7,17 +7,17 @@
 mod accepted;
 mod changes;
 mod fills;
-mod list;
 mod lists;
 mod refused;
 mod salvage;
+mod sample;
 
 use std::ffi::OsString;
 use std::fs;
 use std::path::Path;
 use std::process::ExitCode;
 
-use list::{samples, Making};
+use sample::{Making, Sample};
 use usm::program::{self, shown, write};
 use usm::text;
 
@@ -35,6 +35,18 @@ fn main() -> ExitCode {
             _ => Err(format!("the command was not understood\n{USAGE}")),
         }
     })
+}
+
+/// The sheets, most of them from document 01's bench and its "Errors that look right".
+fn samples() -> Vec<Sample> {
+    let lists = [
+        accepted::spreads(),
+        accepted::sheets(),
+        refused::no_spreads(),
+        refused::sheets(),
+        refused::changed_files(),
+    ];
+    lists.into_iter().flatten().collect()
 }
 
 fn write_all(folder: &Path, force: bool) -> Result<ExitCode, String> {

@@ -5,7 +5,7 @@ use usm::{Leg, Settlement, Sheet, Style};
 
 use crate::accepted::settled;
 use crate::changes;
-use crate::list::{changed, iron_condor, sample, Sample};
+use crate::sample::{changed, iron_condor, sample, Sample};
 
 /// Groups that are no spread (7 to 13).
 pub fn no_spreads() -> Vec<Sample> {

@@ -1,35 +1,33 @@
 //! The sentence of a refusal by itself, where neither file nor sheet is at hand.
 
-use super::binaries;
 use crate::numbers::ordinal;
 use crate::reason::Reason;
 use crate::records::{FILLS_TABLE, LIST_TABLE, ROOTS_TABLE};
-use crate::refusal::Refusal;
 
-pub fn short(refusal: &Refusal, reason: Reason) -> String {
-    let (table, place) = (table_name(refusal.table), ordinal(refusal.place));
-    let record = match refusal.table {
-        FILLS_TABLE => format!("the {place} fill"),
-        ROOTS_TABLE => format!("the {place} root"),
-        LIST_TABLE => format!("the {place} line of the list"),
-        _ => format!("the {place} record of the {table}"),
+pub fn sentence(reason: Reason, table: u64, place: u64) -> String {
+    let (name, nth) = (table_name(table), ordinal(place));
+    let record = match table {
+        FILLS_TABLE => format!("the {nth} fill"),
+        ROOTS_TABLE => format!("the {nth} root"),
+        LIST_TABLE => format!("the {nth} line of the list"),
+        _ => format!("the {nth} record of the {name}"),
     };
     match reason {
         Reason::WrongSize => String::from(
             "wrong size: a table must be whole 32-byte records (at most 256 legs, 32 claims, 1,024 fills), \
              a list at most 256 lines, a file 1 to 39 whole 512-byte blocks, and a written sheet needs a record",
         ),
-        Reason::ChecksDiffer => format!("the {place} block is damaged: a check sum does not fit its bytes"),
+        Reason::ChecksDiffer => format!("the {nth} block is damaged: a check sum does not fit its bytes"),
         Reason::BlockOutOfForm => format!(
-            "the {place} block is out of form: its header, its unused bytes, its place among \
+            "the {nth} block is out of form: its header, its unused bytes, its place among \
              the kinds, or a table that grows past its limit"
         ),
         // Of all that have fields only credit event binaries stand in no table.
-        Reason::FieldOutOfRange if refusal.table == 0 => binaries::short(refusal.place, reason),
-        Reason::ExpiryBeforeValuation => binaries::short(refusal.place, reason),
+        Reason::FieldOutOfRange if table == 0 => of_binary(reason, place),
+        Reason::ExpiryBeforeValuation => of_binary(reason, place),
         Reason::FieldOutOfRange => format!("{record} has a field out of range"),
-        Reason::GroupsMisnumbered if refusal.table == 3 => {
-            format!("the {place} claim is not for group {}", refusal.place.saturating_add(1))
+        Reason::GroupsMisnumbered if table == 3 => {
+            format!("the {nth} claim is not for group {}", place.saturating_add(1))
         }
         Reason::GroupsMisnumbered => format!("{record} names a group that has no claim"),
         Reason::UnderlyingsDiffer => format!("{record} has another underlying than its group's first leg"),
@@ -48,30 +46,42 @@ pub fn short(refusal: &Refusal, reason: Reason) -> String {
         Reason::NotPlaced => {
             format!("{record} is a short, or a long without the paid mark, that is not placed")
         }
-        Reason::NoRoom if refusal.table == 0 => {
-            format!("no room: {} bytes or entries are needed", refusal.place)
+        Reason::NoRoom if table == 0 => {
+            format!("no room: {} bytes or entries are needed", place)
         }
-        Reason::NoRoom if refusal.table == FILLS_TABLE => {
-            format!("no room to list refused fills: {} entries are needed", refusal.place)
+        Reason::NoRoom if table == FILLS_TABLE => {
+            format!("no room to list refused fills: {} entries are needed", place)
         }
-        Reason::NoRoom => format!("no room for the {table}: {} bytes are needed", refusal.place),
+        Reason::NoRoom => format!("no room for the {name}: {} bytes are needed", place),
         Reason::WrongAccount => format!(
-            "the {place} block's account is zero or not that of the first block; or the account supplied is zero"
+            "the {nth} block's account is zero or not that of the first block; or the account supplied is zero"
         ),
         Reason::MoreClosedThanHeld => format!("{record} closes more contracts than are held"),
-        Reason::TooMuchHeld if refusal.table == FILLS_TABLE => {
+        Reason::TooMuchHeld if table == FILLS_TABLE => {
             format!("{record} is of a 257th line and side, or makes more than 100,000 contracts of one")
         }
         Reason::TooMuchHeld => format!("{record} makes more than 100,000 contracts of its line and side"),
         Reason::LineMalformed => format!("{record} is malformed, or ends without a newline"),
-        Reason::RootsIllFormed => ill_formed(&record, refusal.place),
-        Reason::NotInRoots if refusal.table == LIST_TABLE => {
+        Reason::RootsIllFormed => ill_formed(&record, place),
+        Reason::NotInRoots if table == LIST_TABLE => {
             format!("{record} has a root that is not in the table of roots")
         }
         Reason::NotInRoots => format!(
             "{record} has terms (style, market, unit size, settlement and underlying) that no root stands for"
         ),
-        _ => of_group(refusal.place, reason),
+        _ => of_group(reason, place),
+    }
+}
+
+/// The two reasons of a credit event binary: the place tells the long, or the only one, from the short of a pair.
+fn of_binary(reason: Reason, place: u64) -> String {
+    let name = match place {
+        0 => "the option, or the long of a pair,",
+        _ => "the short of the pair",
+    };
+    match reason {
+        Reason::ExpiryBeforeValuation => format!("{name} expires before the valuation date"),
+        _ => format!("{name} has a field or a date out of range"),
     }
 }
 
@@ -85,7 +95,7 @@ fn ill_formed(root: &str, place: u64) -> String {
 }
 
 /// The reasons whose place is a group.
-fn of_group(group: u64, reason: Reason) -> String {
+fn of_group(reason: Reason, group: u64) -> String {
     let wrong = match reason {
         Reason::NoLeg => "has no leg, or is not a group from 1 to 32",
         Reason::CallUnitsUnequal => "has unequal long and short call units",

@@ -1,10 +1,11 @@
 //! What a call answers: acceptance, counts, or the first refusal in the order of documents 01 and 02.
 
+mod short;
+
 use std::error::Error;
 use std::fmt;
 
 use crate::reason::Reason;
-use crate::sentences;
 
 /// An accepted sheet: claims 1 to `groups`, the sum of their margins, and the work that these were.
 #[derive(Clone, Copy, Debug, PartialEq, Eq)]
@@ -89,7 +90,7 @@ impl Accepted {
 impl fmt::Display for Refusal {
     fn fmt(&self, f: &mut fmt::Formatter<'_>) -> fmt::Result {
         match self.reason() {
-            Some(reason) => write!(f, "{}", sentences::short(self, reason)),
+            Some(reason) => write!(f, "{}", short::sentence(reason, self.table, self.place)),
             None => write!(f, "refusal {}, table {}, place {}", self.number, self.table, self.place),
         }
     }

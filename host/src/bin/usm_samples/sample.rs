@@ -1,9 +1,7 @@
-//! The samples, most of them from document 01's bench and its "Errors that look right".
+//! What a sample is, and what several of them are made of.
 
 use usm::accounts::{in_group, leg, placed};
 use usm::{Leg, Sheet};
-
-use crate::{accepted, refused};
 
 /// How a sample's file comes from its sheet.
 pub enum Making {
@@ -30,17 +28,6 @@ pub const ACCOUNT: u64 = 20_120_827;
 pub fn changed(name: &'static str, change: fn(Vec<u8>) -> Vec<u8>) -> Sample {
     let sheet = placed(&iron_condor(2), &[1_000_000, 500_000]);
     Sample { name, sheet, making: Making::Changed(change) }
-}
-
-pub fn samples() -> Vec<Sample> {
-    let lists = [
-        accepted::spreads(),
-        accepted::sheets(),
-        refused::no_spreads(),
-        refused::sheets(),
-        refused::changed_files(),
-    ];
-    lists.into_iter().flatten().collect()
 }
 
 /// P4's legs, puts in group 1 and calls in the given one.
