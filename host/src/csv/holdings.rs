@@ -13,6 +13,9 @@ use crate::records::{Leg, MOST_LEGS};
 /// let holdings = usm::csv::parse_holdings(csv)?;
 /// assert_eq!((holdings[0].contracts, holdings[0].strike), (10, 62_500));
 ///
+/// let three_decimals = usm::csv::parse_holdings(&csv.replace("62,5", "1,060"))?;
+/// assert_eq!(three_decimals[0].strike, 1_060, "in mills: a comma stands before decimals");
+///
 /// let errors = usm::csv::parse_holdings(&csv.replace("call", "cal")).unwrap_err();
 /// assert_eq!(errors.to_string(), "row 2, column 3 (type): expected `call` or `put`, found `cal`");
 /// # Ok::<(), usm::csv::CellErrors>(())

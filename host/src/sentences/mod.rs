@@ -27,5 +27,6 @@ pub use fills::of_fills;
 pub use moves::of_move;
 pub use salvage::{of_dropped, of_left_out, of_salvage};
 pub use sheets::{earlier_leg, of_sheet};
+pub use strangers::other_kind;
 pub use symbols::{of_export, of_import, of_line};
 pub use unequal::{unequal, Unequal};

@@ -7,29 +7,47 @@ use crate::fields::{
 };
 use crate::records::{Fill, Leg, Market, Settlement, Side, Style, RECORD_BYTES};
 
-/// The words of a leg, padded so that those of one table stand in columns.
-pub fn leg_words(leg: &Leg) -> String {
-    let paid = if leg.paid { " paid" } else { "" };
-    format!(
-        "{:<5} {} {:<4} {} {} unit {} underlying {} {} {}{}{paid}",
-        name_of(leg.side, SIDES),
-        leg.contracts,
-        name_of(leg.option_type, TYPES),
+/// The words of a leg one by one: side, contracts, type, strike, expiry, unit size, underlying, style, market, and its
+/// settlement, which is empty where it is not stated.
+pub fn words_of(leg: &Leg) -> [String; 10] {
+    [
+        String::from(name_of(leg.side, SIDES)),
+        leg.contracts.to_string(),
+        String::from(name_of(leg.option_type, TYPES)),
         strike_text(leg.strike),
         date_text(leg.expiry),
-        leg.unit_size,
-        leg.underlying,
-        name_of(leg.style, STYLES),
-        name_of(leg.market, MARKETS),
-        settlement_words(leg.settlement),
+        leg.unit_size.to_string(),
+        leg.underlying.to_string(),
+        String::from(name_of(leg.style, STYLES)),
+        String::from(name_of(leg.market, MARKETS)),
+        String::from(settlement_word(leg.settlement)),
+    ]
+}
+
+/// The words of a leg, padded so that those of one table stand in columns.
+pub fn leg_words(leg: &Leg) -> String {
+    let [side, contracts, option_type, strike, expiry, unit, underlying, style, market, settlement] =
+        words_of(leg);
+    let (settlement, paid) = (behind_blank(&settlement), if leg.paid { " paid" } else { "" });
+    format!(
+        "{side:<5} {contracts} {option_type:<4} {strike} {expiry} unit {unit} underlying {underlying} \
+         {style} {market}{settlement}{paid}"
     )
 }
 
-/// The settlement behind a blank; one that is not stated has no word.
-pub fn settlement_words(settlement: Settlement) -> String {
+/// A settlement that is not stated has no word.
+pub fn settlement_word(settlement: Settlement) -> &'static str {
     match settlement {
-        Settlement::NotStated => String::new(),
-        settlement => format!(" {}", name_of(settlement, SETTLEMENTS)),
+        Settlement::NotStated => "",
+        settlement => name_of(settlement, SETTLEMENTS),
+    }
+}
+
+/// A word that need not be there, behind a blank.
+pub fn behind_blank(word: &str) -> String {
+    match word {
+        "" => String::new(),
+        word => format!(" {word}"),
     }
 }
 

@@ -19,7 +19,7 @@ pub use fills::{parse_fills, show_fills};
 #[doc(hidden)]
 pub use line::date_text;
 pub(crate) use line::{
-    fill_text, leg_text, market_name, placed_text, raw_text, series_text, side_name, strike_text, style_name,
+    fill_text, leg_text, market_name, placed_text, raw_text, series_text, side_name, style_name, words_of,
 };
 pub(crate) use names::{name_of, Names, ACTIONS, MARKETS, SETTLEMENTS, SIDES, STYLES, TYPES};
 pub(crate) use parse::is_section;

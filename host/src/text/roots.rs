@@ -3,7 +3,7 @@
 use std::fmt::Write;
 
 use super::errors::{TextError, TextErrors};
-use super::line::settlement_words;
+use super::line::{behind_blank, settlement_word};
 use super::names::{name_of, MARKETS, STYLES};
 use super::parse::{add, each_line};
 use super::record::{settlement, underlying, unit_size};
@@ -62,7 +62,7 @@ pub fn terms_text(root: &Root) -> String {
         name_of(root.style, STYLES),
         name_of(root.market, MARKETS),
         root.unit_size,
-        settlement_words(root.settlement),
+        behind_blank(settlement_word(root.settlement)),
         root.underlying,
     )
 }

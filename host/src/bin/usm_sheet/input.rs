@@ -132,6 +132,9 @@ fn text_in(name: &OsStr, bytes: Vec<u8>) -> Result<String, String> {
             shown(name)
         ));
     }
+    if let Some(kind) = sentences::other_kind(&bytes) {
+        return Err(format!("{}: expected text in UTF-8, and this looks like {kind}", shown(name)));
+    }
     String::from_utf8(bytes).map_err(|error| {
         let good = &error.as_bytes()[..error.utf8_error().valid_up_to()];
         let line = 1 + good.iter().filter(|&&byte| byte == b'\n').count();
