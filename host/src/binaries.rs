@@ -3,8 +3,7 @@
 
 use crate::calls::ask;
 use crate::ffi;
-use crate::records::{Binary, LongBinary, Side};
-use crate::refusal::Refusal;
+use usm_values::{Binary, LongBinary, Refusal, Side};
 
 /// The margin of one position in mills: 4 for a field or a date out of range, then 25 for an expiry before the
 /// valuation date.

@@ -3,7 +3,7 @@
 use super::columns::table;
 use super::errors::CellErrors;
 use super::leg::{head, marked_cells, marked_leg, COLUMNS, PAID};
-use crate::records::{Leg, MOST_LEGS};
+use usm_values::{Leg, MOST_LEGS};
 
 /// The holdings in a CSV, in the format [`super::FORMAT`] tells of, or all that is wrong with it.
 ///

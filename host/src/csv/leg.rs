@@ -2,9 +2,9 @@
 
 use super::columns::{needed, optional, Column, Row};
 use super::errors::CellError;
-use crate::records::{Leg, Settlement, GREATEST_UNIT_SIZE, MOST_CONTRACTS};
 use crate::text::{date, strike, words_of, EXPIRY, STRIKE};
 use crate::text::{MARKETS, SETTLEMENTS, SIDES, STYLES, TYPES};
+use usm_values::{Leg, Settlement, GREATEST_UNIT_SIZE, MOST_CONTRACTS};
 
 /// The columns of a leg that has no paid mark, in the order in which they are written.
 pub const COLUMNS: [Column; 10] = [

@@ -1,10 +1,8 @@
 //! Refusals 4 and 25 of credit event binaries: which number is out of range, or which option expires too early.
 
-use crate::numbers::grouped;
-use crate::reason::Reason;
-use crate::records::{is_expiry, Binary, LongBinary, GREATEST_SPREAD, MOST_CONTRACTS};
-use crate::refusal::Refusal;
 use crate::text::date_text;
+use usm_values::numbers::grouped;
+use usm_values::{is_expiry, Binary, LongBinary, Reason, Refusal, GREATEST_SPREAD, MOST_CONTRACTS};
 
 /// The sentence of a refusal that [`crate::binary_margin`] answered to these numbers.
 ///

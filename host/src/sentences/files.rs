@@ -2,9 +2,8 @@
 
 use super::sheets::of_sheet;
 use super::{blocks, fields, size, strangers};
-use crate::reason::Reason;
-use crate::refusal::Refusal;
 use crate::sheet::Sheet;
+use usm_values::{Reason, Refusal};
 
 /// The sentence of a refusal that the check of this file, or its reader, answered.
 ///

@@ -1,10 +1,9 @@
 //! Refusals 6, 11, 12 and 21: what a group as a whole lacks to be a spread, or to be fit for a cash account.
 
 use super::legs::{named, Placed, OF_PLACEMENT};
-use crate::numbers::grouped;
-use crate::reason::Reason;
-use crate::records::{Leg, OptionType, Settlement, Side, Style, MOST_CLAIMS};
 use crate::text::date_text;
+use usm_values::numbers::grouped;
+use usm_values::{Leg, OptionType, Reason, Settlement, Side, Style, MOST_CLAIMS};
 
 pub fn sentence(placement: &[Leg], group: u64, reason: Reason) -> Option<String> {
     let legs = legs_of(placement, group);

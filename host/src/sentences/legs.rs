@@ -3,10 +3,9 @@
 
 use std::cmp::Ordering;
 
-use crate::numbers::ordinal;
-use crate::reason::Reason;
-use crate::records::{Leg, Side};
 use crate::text::{date_text, market_name, placed_text, series_text, side_name, style_name};
+use usm_values::numbers::ordinal;
+use usm_values::{Leg, Reason, Side};
 
 /// A leg and its place in the placement.
 pub type Placed<'a> = (u64, &'a Leg);

@@ -1,9 +1,8 @@
 //! Why a sheet is refused, or a group of it.
 
 use super::{groups, legs, rules};
-use crate::reason::Reason;
-use crate::refusal::Refusal;
 use crate::sheet::Sheet;
+use usm_values::{Reason, Refusal};
 
 /// The sentence of a refusal that a call on this sheet answered.
 ///

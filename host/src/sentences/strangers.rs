@@ -1,8 +1,8 @@
 //! Files that are no sheet files, of whatever size: what they look like, and what to do with them.
 
-use crate::block::BLOCK_BYTES;
-use crate::form::Form;
 use crate::text::is_section;
+use usm_values::block::BLOCK_BYTES;
+use usm_values::Form;
 
 /// What files of other kinds begin with, what they are, and what may help.
 const KINDS: [(&[u8], &str); 12] = [

@@ -1,11 +1,11 @@
 //! One record as its words: padded, as a text shows it, and not, as a sentence quotes it.
 
 use super::names::{name_of, ACTIONS, MARKETS, SETTLEMENTS, SIDES, STYLES, TYPES};
-use crate::fields::{
+use usm_values::fields::{
     get, Field, CONTRACTS, EXPIRY, GROUP, MARKET, PAID, SETTLEMENT, SIDE, STRIKE, STYLE, TYPE, UNDERLYING,
     UNIT_SIZE,
 };
-use crate::records::{Fill, Leg, Market, Settlement, Side, Style, RECORD_BYTES};
+use usm_values::{Fill, Leg, Market, Settlement, Side, Style, RECORD_BYTES};
 
 /// The words of a leg one by one: side, contracts, type, strike, expiry, unit size, underlying, style, market, and its
 /// settlement, which is empty where it is not stated.
@@ -141,7 +141,7 @@ pub fn raw_text(record: &[u8; RECORD_BYTES]) -> String {
 #[cfg(test)]
 mod tests {
     use super::*;
-    use crate::accounts::{in_group, leg};
+    use usm_kit::accounts::{in_group, leg};
 
     #[test]
     fn a_record_in_range_has_one_text() {

@@ -8,7 +8,7 @@ use super::names::{name_of, MARKETS, STYLES};
 use super::parse::{add, each_line};
 use super::record::{settlement, underlying, unit_size};
 use super::words::Words;
-use crate::records::{padded_root, Root, MOST_ROOTS, ROOT_NAME_BYTES};
+use usm_values::{padded_root, Root, MOST_ROOTS, ROOT_NAME_BYTES};
 
 /// The roots a text describes, in the format [`super::ROOTS_FORMAT`] tells of, or all that is wrong with it.
 /// That no two are the same is asked by the calls that take them (23).

@@ -3,8 +3,8 @@
 use std::fmt::Write;
 
 use super::line::{leg_words, place_text};
-use crate::records::Leg;
 use crate::sheet::Sheet;
+use usm_values::Leg;
 
 /// The sheet as text, in the format [`super::FORMAT`] tells of.
 ///

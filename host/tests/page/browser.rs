@@ -4,8 +4,8 @@
 use std::fs;
 use std::path::{Path, PathBuf};
 
-use usm::accounts::{in_group, leg, placed};
 use usm::{Leg, Market, Settlement, Sheet};
+use usm_kit::accounts::{in_group, leg, placed};
 
 use crate::chromium::Chromium;
 use crate::common::folder;

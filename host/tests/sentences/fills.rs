@@ -1,7 +1,7 @@
 //! Refusals of fills: those that are listed, and those of the holdings that they are played over.
 
-use usm::accounts::{in_group, leg, times};
 use usm::{play, sentences, Action, Fill, Leg, Refusal};
+use usm_kit::accounts::{in_group, leg, times};
 
 use crate::entry::entry;
 

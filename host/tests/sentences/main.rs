@@ -14,7 +14,6 @@ mod symbols;
 
 use std::collections::BTreeSet;
 use std::fs;
-use std::path::Path;
 
 use usm::{
     check_file, move_to_new, move_to_old, sentences, Form, Origin, Reason, Refusal, Sheet, BLOCK_BYTES,
@@ -22,6 +21,7 @@ use usm::{
 };
 
 use entry::{entry, Case};
+use usm_kit::repository;
 
 /// The sentences of refusals by themselves, at places that count from 0 and groups that count from 1.
 fn short() -> String {
@@ -128,7 +128,7 @@ fn every_sentence_is_that_of_the_table() {
     let of_calls = [of_groups(), of_cash(), of_moves()].concat();
     let of_others = [fills::sentences(), symbols::sentences(), salvage::sentences(), binaries::sentences()];
     let found = [short(), of_files(&cases()), of_calls, of_others.join("\n")].join("\n");
-    let table = Path::new(env!("CARGO_MANIFEST_DIR")).join("tests/sentences/sentences.txt");
+    let table = repository().join("host/tests/sentences/sentences.txt");
     if std::env::var_os("USM_WRITE_SENTENCES").is_some() {
         fs::write(&table, &found).expect("the table is written");
     }

@@ -1,7 +1,7 @@
 //! Refusals 5 to 16: groups that are no spreads, and sheets that break a rule.
 
-use usm::accounts::{in_group, leg, paid, placed, times};
 use usm::{Claim, Leg, Market, Settlement, Sheet, Style};
+use usm_kit::accounts::{in_group, leg, paid, placed, times};
 
 use crate::entry::Case;
 

@@ -4,7 +4,6 @@ use std::ffi::{OsStr, OsString};
 use std::process::ExitCode;
 
 use usm::numbers::{amount, count, grouped};
-use usm::program::shown;
 use usm::LONGEST_FILE;
 
 use crate::files::{are_named, asked, Asked};
@@ -12,6 +11,7 @@ use crate::found::{Found, Judged};
 use crate::input::read_into;
 use crate::json::Object;
 use crate::output::Output;
+use crate::program::shown;
 
 /// How the verdicts are told.
 pub struct Telling {

@@ -6,9 +6,10 @@ use std::fs::File;
 use std::io::{self, Read};
 use std::path::Path;
 
-use usm::program::{not_empty, shown, Stream};
 use usm::text::Errors;
 use usm::{csv, sentences, text, Fill, Form, Origin, Sheet, LONGEST_FILE};
+
+use crate::program::{not_empty, shown, Stream};
 
 /// More than any sheet's text needs; it keeps a wrong file from filling the memory.
 const LONGEST_TEXT: usize = 1 << 20;
