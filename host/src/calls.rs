@@ -4,9 +4,7 @@
 //! lies past the output stays as it was.
 
 use crate::ffi;
-use crate::form::{Form, Origin};
-use crate::records::Table;
-use crate::refusal::{Accepted, PlayCounts, RecordCounts, Refusal, SalvageCounts};
+use usm_values::{Accepted, Form, Origin, PlayCounts, RecordCounts, Refusal, SalvageCounts, Table};
 
 /// Runs a call that fills the four numbers of an answer, and parts results from refusals.
 pub(crate) fn ask(call: impl FnOnce(&mut ffi::Answer)) -> Result<[u64; 3], Refusal> {

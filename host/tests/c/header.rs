@@ -3,7 +3,8 @@
 use std::collections::{BTreeMap, BTreeSet};
 
 use usm::ffi::{Answer, LINE_BYTES, TABLE_BYTES};
-use usm::{block, fields, Action, Form, Market, OptionType, Reason, Settlement, Side, Style, Table};
+use usm::{Action, Form, Market, OptionType, Reason, Settlement, Side, Style, Table};
+use usm_kit::{block, fields};
 
 const HEADER: &str = include_str!("../../include/usm.h");
 
@@ -112,7 +113,7 @@ fn terms_tables_and_sizes_have_rusts_numbers() {
 /// A file's first block says by its own bytes what stands where.
 #[test]
 fn a_block_begins_as_the_header_says() {
-    let file = usm::accounts::fullest().to_file().expect("a file");
+    let file = usm_kit::accounts::fullest().to_file().expect("a file");
     let at = |name: &str| constant(name) as usize;
     let last = &file[file.len() - block::BLOCK_BYTES..];
     assert_eq!(last[at("USM_BLOCK_MARK")..][..4], *b"USM1");

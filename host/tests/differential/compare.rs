@@ -4,8 +4,9 @@
 use std::fmt::{Debug, Display};
 
 use usm::ffi::{self, Answer, LINE_BYTES, TABLE_BYTES};
-use usm::lent::Lent;
-use usm::{model, Accepted, Form, Origin, PlayCounts, Refusal, Table, Tables, RECORD_BYTES};
+use usm::{Accepted, Form, Origin, PlayCounts, Refusal, Table, Tables, RECORD_BYTES};
+use usm_kit::lent::Lent;
+use usm_kit::model;
 
 use crate::fills::Day;
 

@@ -7,9 +7,9 @@ use std::os::unix::fs::symlink;
 use std::path::{Path, PathBuf};
 use std::process::Command;
 
-use usm::accounts::{leg, placed};
-use usm::block::BLOCK_BYTES;
 use usm::Sheet;
+use usm_kit::accounts::{leg, placed};
+use usm_kit::block::BLOCK_BYTES;
 
 use crate::{common, run, run_named, told};
 

@@ -2,9 +2,9 @@
 
 use std::fs;
 
-use usm::accounts::{leg, placed};
-use usm::block::{seal, BLOCK_BYTES};
 use usm::{Leg, Sheet};
+use usm_kit::accounts::{leg, placed};
+use usm_kit::block::{seal, BLOCK_BYTES};
 
 use crate::{folder, names_in, run, told};
 

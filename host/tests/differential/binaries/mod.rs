@@ -5,8 +5,9 @@ pub mod laws;
 
 use std::fmt::Display;
 
-use usm::both::{Calls, LIBRARY, MODEL};
-use usm::{ffi, model, Binary, LongBinary, Refusal, Side};
+use usm::{ffi, Binary, LongBinary, Refusal, Side};
+use usm_kit::both::{Calls, LIBRARY, MODEL};
+use usm_kit::model;
 
 use crate::compare::{answer_of, numbers, same};
 use crate::random::Random;
