@@ -20,7 +20,6 @@ use Rattle.records.proofs.PassLaws.{Pass, unclear, pass-left, pass-right}
 use Rattle.records.proofs.PutLaws.{put-front}
 use Rattle.blocks.specs.Block.{sumsAgree, shaped, numberFits, accountFits, originOf}
 use Rattle.blocks.specs.File.{wholeFile, blocksOf, tablesIn, originIn, frameIn, follows, withinLimits, blockChecks, blocksChecks}
-use Rattle.blocks.specs.Writer.{filled}
 use Rattle.blocks.specs.Reader.{readOf}
 use Rattle.blocks.specs.Moves.{movedTo}
 use Rattle.blocks.specs.Steps.{scanOf}
@@ -185,7 +184,6 @@ pub forms-alike : FormsAlike
 forms-alike o q t w v = written-reads-back o t w .1 ∙ sym (written-reads-back q t v .1)
 
 pub moved-alike : MovedAlike
-unfolding filled
 moved-alike from to file out n a x =
     let m = move-wrote from to file (length out) n x in
     let t = tablesIn file in

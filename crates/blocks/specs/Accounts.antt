@@ -10,10 +10,11 @@ use Rattle.records.specs.Bytes.{AllBytes}
 use Rattle.records.specs.Chunks.{chunkAt}
 use Rattle.records.specs.Lists.{All}
 use Rattle.records.specs.Order.{refuse}
+use Rattle.records.specs.Written.{leftAfter}
+use Rattle.blocks.specs.Writer.{hasWritten}
 use Rattle.blocks.specs.Forms.{kept, named, settled}
 use Rattle.blocks.specs.Block.{originOf}
 use Rattle.blocks.specs.File.{Tables, wholeFile, blocksOf, tablesIn, originIn, fileOf}
-use Rattle.blocks.specs.Writer.{filled}
 use Rattle.blocks.specs.Reader.{readOf}
 use Rattle.blocks.specs.Moves.{moveOf}
 use Rattle.blocks.specs.RoundTrips.{Writes, Reads}
@@ -63,5 +64,5 @@ FormsAlike = (o q : Origin) (t : Tables) → Writes o t → Writes q t → table
 abbrev pub MovedAlike : Type 0
 MovedAlike =
     (from : Form) (to : Origin) (file out : List ℕ) (n : ℕ) → AllBytes file → moveOf from to file (length out) ≡ Wrote n
-    → (let moved = take n (filled (Wrote n) to (tablesIn file) out) in
+    → (let moved = take n (leftAfter (hasWritten (Wrote n)) (fileOf to (tablesIn file)) out) in
     Reads moved × (tablesIn moved ≡ tablesIn file) × (originIn moved ≡ settled to) × (n ≡ length file))

@@ -23,7 +23,7 @@ use Rattle.records.proofs.TableLaws.{fields-good}
 use Rattle.fills.specs.Fills.{isOpen, fillLeg}
 use Rattle.fills.specs.Rows.{more, fewer, opened, closed, mergedInto, merged, bytesOf, unmarked, startingLegs}
 use Rattle.fills.specs.Played.{numberOver, rowsAfter, playedOver}
-use Rattle.fills.specs.Calls.{rowsPlayed, left}
+use Rattle.fills.specs.Calls.{rowsPlayed}
 use Rattle.fills.specs.Ledger.{Apart}
 use Rattle.fills.specs.Balance.{acceptedOver}
 use Rattle.fills.specs.Demands.{Untouched, UntouchedStays, StartingStays}
@@ -187,7 +187,6 @@ legs-stay h f apart marks e =
     none-played (merged (startingLegs h)) (recordsOf f) e ∙ ap merged legs ∙ merged-apart [] (legsOf h) apart
 
 pub starting-stays : StartingStays
-unfolding left
 starting-stays h f result indices numbers n k a e apart marks none =
     let q = passed h f (length result) indices numbers n k e in
     rw (legs-stay h f apart marks none, table-back h f (q .0) a)

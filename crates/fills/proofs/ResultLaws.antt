@@ -15,7 +15,7 @@ use Rattle.records.specs.Lists.{All}
 use Rattle.records.specs.Listed.{indicesOf, numbersOf}
 use Rattle.records.specs.Order.{Check, firstOf}
 use Rattle.records.specs.Tables.{mostLegs, goodRecord, tableChecks, fieldChecks, countedOf, wholeTable}
-use Rattle.records.specs.Written.{putAt}
+use Rattle.records.specs.Written.{putAt, leftAfter}
 use Rattle.records.specs.declared.legs.Leg.{Leg}
 use Rattle.records.specs.declared.refusals.Fault.{Fault}
 use Rattle.records.specs.declared.refusals.Fault.the-variants.{Nothing, Is}
@@ -25,15 +25,15 @@ use Rattle.records.proofs.LegLaws.{contracts-range, paid-range, leg-good}
 use Rattle.records.proofs.LineLaws.{line-sym}
 use Rattle.records.proofs.ListLaws.{map-all}
 use Rattle.records.proofs.PassLaws.{Pass, clear, unclear, pass-left, pass-right, pass-both, each-pass}
-use Rattle.records.proofs.PutLaws.{put-front, put-past}
+use Rattle.records.proofs.PutLaws.{put-front, left-stands}
 use Rattle.records.proofs.TableLaws.{ranges, fields-good}
 use Rattle.records.proofs.ChunkLaws.{length-rows}
 use Rattle.fills.specs.Fills.{isOpen, fillLeg}
 use Rattle.fills.specs.Rows.{heldOf, fewer, opened, closed, mergedInto, merged, bytesOf, unmarked, startingLegs}
 use Rattle.fills.specs.Played.{openNumber, numberOver, rowsAfter, playedOver, refusedOver}
-use Rattle.fills.specs.Calls.{startChecks, askPast, roomChecks, playChecks, rowsPlayed, refusedIn, answered, playOf, left}
+use Rattle.fills.specs.Calls.{startChecks, askPast, roomChecks, playChecks, rowsPlayed, refusedIn, answered, playOf, hasPlayed}
 use Rattle.fills.specs.Ledger.{Apart, Filled}
-use Rattle.fills.specs.Demands.{CallStands, ResultSound, ResultUnpaid, ResultStays, Leaves, LeftBy, PlayLeaves}
+use Rattle.fills.specs.Demands.{CallStands, ResultSound, ResultUnpaid, ResultStays, LeftBy, PlayLeaves}
 use Rattle.fills.specs.declared.calls.Played.{Played}
 use Rattle.fills.specs.declared.calls.Played.the-variants.{Done, Refused}
 use Rattle.fills.proofs.BalanceLaws.{contracts-apart}
@@ -329,8 +329,7 @@ unfolding playOf
 again-done rows room i j f a h = rw (again-clear rows room i j f a h, again rows f a, none-refused (bytesOf rows))
 
 -- the records that a call leaves at the front of its result
-pub left-records : (rows : List Leg) (result : List ℕ) (n k : ℕ) → n ≡ length rows → take (32 * n) (left (Done n k) (bytesOf rows) result) ≡ bytesOf rows
-unfolding left
+pub left-records : (rows : List Leg) (result : List ℕ) (n k : ℕ) → n ≡ length rows → take (32 * n) (leftAfter (hasPlayed (Done n k)) (bytesOf rows) result) ≡ bytesOf rows
 left-records rows result n k e =
     let m : 32 * n ≡ length (bytesOf rows) = omega (arith, length-bytes rows) in
     rw m (put-front result (bytesOf rows))
@@ -354,19 +353,15 @@ call-stands h f result indices numbers n k e =
 
 -- ---- what is left in the lent slices
 
-leaves : (entries d : List ℕ) → Leaves entries d (putAt d 0 entries)
-leaves entries d = (put-front d entries, put-past d entries)
-
 pub play-leaves : PlayLeaves
-unfolding left
 play-leaves h f d i m = go (playOf h f (length d) (length i) (length m)) refl
   where
     go : (r : Played) → playOf h f (length d) (length i) (length m) ≡ r → LeftBy r h f d i m
     go (Done n k) e = (
       length-bytes (rowsPlayed h f) ∙ ap (λ (t : ℕ). 32 * t) (sym (passed h f (length d) (length i) (length m) n k e .1)),
       sym (listed h f (length d) (length i) (length m) n k e),
-      leaves (bytesOf (rowsPlayed h f)) d,
-      leaves (indicesOf (refusedIn h f)) i,
-      leaves (numbersOf (refusedIn h f)) m,
+      left-stands d (bytesOf (rowsPlayed h f)),
+      left-stands i (indicesOf (refusedIn h f)),
+      left-stands m (numbersOf (refusedIn h f)),
     )
     go (Refused r) e = (refl, refl, refl)

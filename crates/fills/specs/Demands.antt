@@ -4,7 +4,7 @@ use mathlib.Core.Path.{_≡_}
 use mathlib.Core.Bool.{false}
 use mathlib.Core.List.{List, [], _∷_, _++_}
 use Prim.Native.Nat.{ℕ, _+_, _*_, _≤_}
-use lib.ListN.{length, take, drop}
+use lib.ListN.{length, take}
 use Rattle.records.specs.Bytes.{AllBytes}
 use Rattle.records.specs.Chunks.{recordsOf}
 use Rattle.records.specs.Legs.{legOf}
@@ -12,14 +12,14 @@ use Rattle.records.specs.Lines.{sameLineSide, contractsOf}
 use Rattle.records.specs.Lists.{All}
 use Rattle.records.specs.Listed.{indicesOf, numbersOf}
 use Rattle.records.specs.Tables.{countedOf, legsOf}
-use Rattle.records.specs.Written.{putAt}
+use Rattle.records.specs.Written.{putAt, leftAfter, StandsFirst}
 use Rattle.records.specs.declared.legs.Leg.{Leg}
 use Rattle.records.specs.declared.tables.Kind.the-variants.{Holdings}
 use Rattle.records.specs.declared.tables.Counted.the-variants.{Records}
 use Rattle.fills.specs.Fills.{fillLeg}
 use Rattle.fills.specs.Rows.{merged, bytesOf, startingLegs}
 use Rattle.fills.specs.Played.{playedOver, refusedOver}
-use Rattle.fills.specs.Calls.{rowsPlayed, refusedIn, playOf, left}
+use Rattle.fills.specs.Calls.{rowsPlayed, refusedIn, playOf, hasPlayed}
 use Rattle.fills.specs.Ledger.{Ledger, emptyLedger, startedFrom, ledgerOver, refusedBy, Apart, StandFor, Filled}
 use Rattle.fills.specs.Balance.{acceptedOver, openedIn, closedIn}
 use Rattle.fills.specs.declared.calls.Played.{Played}
@@ -81,7 +81,7 @@ ResultUnpaid = (h f : List ℕ) (result indices numbers n k : ℕ) → playOf h 
 abbrev pub ResultStays : Type 0
 ResultStays = (h f result : List ℕ) (indices numbers n k : ℕ) → playOf h f (length result) indices numbers ≡ Done n k
     → (room i j : ℕ) → 8192 ≤ room
-    → (let records = take (32 * n) (left (Done n k) (bytesOf (rowsPlayed h f)) result) in
+    → (let records = take (32 * n) (leftAfter (hasPlayed (Done n k)) (bytesOf (rowsPlayed h f)) result) in
     (playOf records [] room i j ≡ Done n 0) × (bytesOf (rowsPlayed records []) ≡ records))
 
 -- ---- what no fill touches comes out byte for byte
@@ -98,7 +98,7 @@ pub record Untouched (h f x : List ℕ) : Type 0 where
 
 -- the records that a call leaves at the front of its result
 abbrev pub resultRecords : List ℕ → List ℕ → List ℕ → ℕ → ℕ → List (List ℕ)
-resultRecords h f result n k = recordsOf (take (32 * n) (left (Done n k) (bytesOf (rowsPlayed h f)) result))
+resultRecords h f result n k = recordsOf (take (32 * n) (leftAfter (hasPlayed (Done n k)) (bytesOf (rowsPlayed h f)) result))
 
 -- it is one of them
 abbrev pub UntouchedStays : Type 0
@@ -110,22 +110,19 @@ UntouchedStays = (h f result : List ℕ) (indices numbers n k : ℕ) → AllByte
 abbrev pub StartingStays : Type 0
 StartingStays = (h f result : List ℕ) (indices numbers n k : ℕ) → AllBytes h → playOf h f (length result) indices numbers ≡ Done n k
     → Apart (legsOf h) → All (λ l. l .paid ≡ 0) (legsOf h) → acceptedOver (merged (startingLegs h)) (recordsOf f) ≡ []
-    → left (Done n k) (bytesOf (rowsPlayed h f)) result ≡ putAt result 0 h
+    → leftAfter (hasPlayed (Done n k)) (bytesOf (rowsPlayed h f)) result ≡ putAt result 0 h
 
 -- ---- 'Nothing lent is written' on a refusal; 'what lies past its output in a lent slice stays'
-
-abbrev pub Leaves : List ℕ → List ℕ → List ℕ → Type 0
-Leaves entries before after = (take (length entries) after ≡ entries) × (drop (length entries) after ≡ drop (length entries) before)
 
 -- what an answer leaves in the three lent slices
 abbrev pub LeftBy : Played → List ℕ → List ℕ → List ℕ → List ℕ → List ℕ → Type 0
 LeftBy (Done n k) h f d i m =
     (length (bytesOf (rowsPlayed h f)) ≡ 32 * n)
     × (length (refusedIn h f) ≡ k)
-    × Leaves (bytesOf (rowsPlayed h f)) d (left (Done n k) (bytesOf (rowsPlayed h f)) d)
-    × Leaves (indicesOf (refusedIn h f)) i (left (Done n k) (indicesOf (refusedIn h f)) i)
-    × Leaves (numbersOf (refusedIn h f)) m (left (Done n k) (numbersOf (refusedIn h f)) m)
-LeftBy (Refused r) h f d i m = (left (Refused r) (bytesOf (rowsPlayed h f)) d ≡ d) × (left (Refused r) (indicesOf (refusedIn h f)) i ≡ i) × (left (Refused r) (numbersOf (refusedIn h f)) m ≡ m)
+    × StandsFirst (bytesOf (rowsPlayed h f)) d (leftAfter (hasPlayed (Done n k)) (bytesOf (rowsPlayed h f)) d)
+    × StandsFirst (indicesOf (refusedIn h f)) i (leftAfter (hasPlayed (Done n k)) (indicesOf (refusedIn h f)) i)
+    × StandsFirst (numbersOf (refusedIn h f)) m (leftAfter (hasPlayed (Done n k)) (numbersOf (refusedIn h f)) m)
+LeftBy (Refused r) h f d i m = (leftAfter (hasPlayed (Refused r)) (bytesOf (rowsPlayed h f)) d ≡ d) × (leftAfter (hasPlayed (Refused r)) (indicesOf (refusedIn h f)) i ≡ i) × (leftAfter (hasPlayed (Refused r)) (numbersOf (refusedIn h f)) m ≡ m)
 
 abbrev pub PlayLeaves : Type 0
 PlayLeaves = (h f d i m : List ℕ) → LeftBy (playOf h f (length d) (length i) (length m)) h f d i m

@@ -15,7 +15,8 @@ use Rattle.records.specs.declared.refusals.Fault.{Fault}
 use Rattle.records.specs.declared.refusals.Fault.the-variants.{Nothing, Is}
 use Rattle.records.proofs.ListLaws.{all-map}
 use Rattle.records.proofs.PassLaws.{clear}
-use Rattle.records.proofs.PutLaws.{put-front, put-past}
+use Rattle.records.proofs.PutLaws.{put-front, left-stands}
+use Rattle.records.specs.Written.{leftAfter}
 use Rattle.blocks.specs.Forms.{settled}
 use Rattle.blocks.specs.Block.{formOf, originOf}
 use Rattle.blocks.specs.File.{tablesOf, tablesIn, originIn, fileOf, withinLimits}
@@ -25,8 +26,8 @@ use Rattle.blocks.specs.declared.answers.Alone.the-variants.{Sound}
 use Rattle.blocks.proofs.Laws.{kept-kept, read-writes-back, written-reads-back, is-sound}
 use Rattle.salvage.specs.Pieces.{mostBytes, piecesOf}
 use Rattle.salvage.specs.Kept.{originFor, keptIn, droppedIn, soundFile}
-use Rattle.salvage.specs.Calls.{startChecks, roomChecks, endChecks, salvageChecks, answered, salvageOf, left}
-use Rattle.salvage.specs.Demands.{ComesOutSound, KeptAreSound, UndamagedSame, TwiceSame, Leaves, LeftBy, SalvageLeaves}
+use Rattle.salvage.specs.Calls.{startChecks, roomChecks, endChecks, salvageChecks, answered, salvageOf, hasSaved}
+use Rattle.salvage.specs.Demands.{ComesOutSound, KeptAreSound, UndamagedSame, TwiceSame, LeftBy, SalvageLeaves}
 use Rattle.salvage.specs.Steps.{AllKept}
 use Rattle.salvage.specs.declared.calls.Salvaged.{Salvaged}
 use Rattle.salvage.specs.declared.calls.Salvaged.the-variants.{Saved, Refused}
@@ -134,28 +135,22 @@ undamaged-same f a r o i m h =
 -- ---- a second salvage
 
 twice-same : TwiceSame
-unfolding left
 twice-same bytes out i m n k e room x y h =
     let p = saved-passes bytes (length out) i m n k e in
     let f = soundFile bytes in
     let r = sound-out bytes n k p .0 in
     let back = sound-back bytes n k p in
     let fits : length f ≤ room = omega (arith, h, p .size) in
-    let file : take n (left (Saved n k) f out) ≡ f = rw (← (p .size)) (put-front out f) in
+    let file : take n (leftAfter (hasSaved (Saved n k)) f out) ≡ f = rw (← (p .size)) (put-front out f) in
     rw (file, ← (p .size)) (saved-same f r back room x y fits, same-out f r back room x y fits, none-dropped f r)
 
 -- ---- lent memory
 
-leaves-list : (n k : ℕ) (entries d : List ℕ) → Leaves entries d (left (Saved n k) entries d)
-unfolding left
-leaves-list n k entries d = (put-front d entries, put-past d entries)
-
 salvage-leaves : SalvageLeaves
-unfolding left
 salvage-leaves bytes d i m = go (salvageOf bytes (length d) (length i) (length m)) refl
   where
     go : (r : Salvaged) → salvageOf bytes (length d) (length i) (length m) ≡ r → LeftBy r bytes d i m
     go (Saved n k) e =
         let p = saved-passes bytes (length d) (length i) (length m) n k e in
-        (p .size, p .entries, leaves-list n k (soundFile bytes) d, leaves-list n k (indicesOf (droppedIn bytes)) i, leaves-list n k (numbersOf (droppedIn bytes)) m)
+        (p .size, p .entries, left-stands d (soundFile bytes), left-stands i (indicesOf (droppedIn bytes)), left-stands m (numbersOf (droppedIn bytes)))
     go (Refused r) e = (refl, refl, refl)

@@ -1,12 +1,11 @@
 -- What the salvage answers, and what it leaves in the slices that it is lent.
 use Prim.Native.Nat.{ℕ}
-use mathlib.Core.Bool.{not, _&&_}
+use mathlib.Core.Bool.{Bool, true, false, not, _&&_}
 use mathlib.Core.List.{List, [], _∷_, _++_}
 use lib.Dec.{eqb, leb}
 use lib.ListN.{length}
 use Rattle.records.specs.Order.{Check, ask, firstOf}
 use Rattle.records.specs.Within.{within}
-use Rattle.records.specs.Written.{putAt}
 use Rattle.records.specs.declared.refusals.Fault.{Fault}
 use Rattle.records.specs.declared.refusals.Fault.the-variants.{Nothing, Is}
 use Rattle.blocks.specs.File.{withinLimits}
@@ -47,7 +46,7 @@ unfoldable pub salvageOf : List ℕ → ℕ → ℕ → ℕ → Salvaged
 salvageOf bytes out indices numbers =
     answered (firstOf (salvageChecks bytes out indices numbers)) (length (soundFile bytes)) (length (droppedIn bytes))
 
--- what a lent slice holds then: the entries from index 0, what lies past them stays; on a refusal all stays
-unfoldable pub left : Salvaged → List ℕ → List ℕ → List ℕ
-left (Saved bytes listed) entries d = putAt d 0 entries
-left (Refused r) entries d = d
+-- whether the lent slices then have the file and the list, `leftAfter`
+abbrev pub hasSaved : Salvaged → Bool
+hasSaved (Saved bytes listed) = true
+hasSaved (Refused r) = false

@@ -5,11 +5,12 @@ use mathlib.Core.Path.{_≡_}
 use mathlib.Core.Bool.{true, false, not}
 use mathlib.Core.List.{List, [], _∷_}
 use lib.Dec.{eqb}
-use lib.ListN.{length, take, drop}
+use lib.ListN.{length, take}
 use Rattle.records.specs.Bytes.{AllBytes}
 use Rattle.records.specs.Chunks.{chunkAt}
 use Rattle.records.specs.Lists.{All, same, only, sumOf}
 use Rattle.records.specs.Listed.{Entry, indicesOf, numbersOf}
+use Rattle.records.specs.Written.{leftAfter, StandsFirst}
 use Rattle.blocks.specs.Forms.{markOf}
 use Rattle.blocks.specs.Block.{sumsAgree}
 use Rattle.blocks.specs.File.{tablesOf, tablesIn, originIn}
@@ -20,7 +21,7 @@ use Rattle.blocks.specs.declared.forms.Origin.{Origin}
 use Rattle.blocks.specs.declared.answers.Alone.the-variants.{Sound}
 use Rattle.salvage.specs.Pieces.{pieceCount}
 use Rattle.salvage.specs.Kept.{originFor, dropNumber, isKept, keptIn, droppedIn, soundFile}
-use Rattle.salvage.specs.Calls.{salvageOf, left}
+use Rattle.salvage.specs.Calls.{salvageOf, hasSaved}
 use Rattle.salvage.specs.declared.calls.Salvaged.{Salvaged}
 use Rattle.salvage.specs.declared.calls.Salvaged.the-variants.{Saved, Refused}
 
@@ -47,7 +48,7 @@ UndamagedSame = (file : List ℕ) → AllBytes file → Reads file → (out indi
 abbrev pub TwiceSame : Type 0
 TwiceSame = (bytes out : List ℕ) (indices numbers n k : ℕ) → salvageOf bytes (length out) indices numbers ≡ Saved n k
     → (room i m : ℕ) → n ≤ room
-    → (let file = take n (left (Saved n k) (soundFile bytes) out) in
+    → (let file = take n (leftAfter (hasSaved (Saved n k)) (soundFile bytes) out) in
     (salvageOf file room i m ≡ Saved n 0) × (soundFile file ≡ file) × (droppedIn file ≡ []))
 
 -- ---- 'a list of what it dropped': every piece is kept, or listed once
@@ -89,21 +90,18 @@ UnmarkedIsThree = (lead : Origin) (b : List ℕ) → length b ≡ 512 → sumsAg
 
 -- ---- 'Nothing lent is written' on a refusal; 'what lies past its output in a lent slice stays'
 
-abbrev pub Leaves : List ℕ → List ℕ → List ℕ → Type 0
-Leaves entries before after = (take (length entries) after ≡ entries) × (drop (length entries) after ≡ drop (length entries) before)
-
 -- what an answer leaves in the three lent slices
 abbrev pub LeftBy : Salvaged → List ℕ → List ℕ → List ℕ → List ℕ → Type 0
 LeftBy (Saved n k) bytes d i m =
     (length (soundFile bytes) ≡ n)
     × (length (droppedIn bytes) ≡ k)
-    × Leaves (soundFile bytes) d (left (Saved n k) (soundFile bytes) d)
-    × Leaves (indicesOf (droppedIn bytes)) i (left (Saved n k) (indicesOf (droppedIn bytes)) i)
-    × Leaves (numbersOf (droppedIn bytes)) m (left (Saved n k) (numbersOf (droppedIn bytes)) m)
+    × StandsFirst (soundFile bytes) d (leftAfter (hasSaved (Saved n k)) (soundFile bytes) d)
+    × StandsFirst (indicesOf (droppedIn bytes)) i (leftAfter (hasSaved (Saved n k)) (indicesOf (droppedIn bytes)) i)
+    × StandsFirst (numbersOf (droppedIn bytes)) m (leftAfter (hasSaved (Saved n k)) (numbersOf (droppedIn bytes)) m)
 LeftBy (Refused r) bytes d i m =
-    (left (Refused r) (soundFile bytes) d ≡ d)
-    × (left (Refused r) (indicesOf (droppedIn bytes)) i ≡ i)
-    × (left (Refused r) (numbersOf (droppedIn bytes)) m ≡ m)
+    (leftAfter (hasSaved (Refused r)) (soundFile bytes) d ≡ d)
+    × (leftAfter (hasSaved (Refused r)) (indicesOf (droppedIn bytes)) i ≡ i)
+    × (leftAfter (hasSaved (Refused r)) (numbersOf (droppedIn bytes)) m ≡ m)
 
 abbrev pub SalvageLeaves : Type 0
 SalvageLeaves = (bytes d i m : List ℕ) → LeftBy (salvageOf bytes (length d) (length i) (length m)) bytes d i m

@@ -13,7 +13,8 @@ use Rattle.records.specs.declared.refusals.Fault.{Fault}
 use Rattle.records.specs.declared.refusals.Fault.the-variants.{Nothing, Is}
 use Rattle.records.specs.declared.refusals.Refusal.{Refusal}
 use Rattle.records.proofs.LegLaws.{length-leg-bytes}
-use Rattle.symbols.specs.Calls.{legOfLine, recordsFor, recordRoom, imported, importLeaves, exported}
+use Rattle.records.specs.Written.{leftAfter}
+use Rattle.symbols.specs.Calls.{legOfLine, recordsFor, recordRoom, imported, exported, hasImported}
 use Rattle.symbols.specs.declared.imports.Imported.the-variants.{Records, Refused}
 use Rattle.symbols.specs.declared.exports.Exported.the-variants.{Bytes, Refused as NotExported}
 
@@ -41,13 +42,13 @@ records-length roots (xs ∷ lines) =
 
 -- only where there are at most 256 lines are records left at all
 pub leaves-same : (n room : ℕ) (x y d : List ℕ) → (n ≤ 256 → x ≡ y)
-    → importLeaves (imported (firstOf (recordRoom n room)) n) x d ≡ importLeaves (imported (firstOf (recordRoom n room)) n) y d
-unfolding recordRoom firstOf importLeaves
+    → leftAfter (hasImported (imported (firstOf (recordRoom n room)) n)) x d ≡ leftAfter (hasImported (imported (firstOf (recordRoom n room)) n)) y d
+unfolding recordRoom firstOf
 leaves-same n room x y d h = go (leb n 256) refl (leb (32 * n) room)
   where
     go : (a : Bool) → leb n 256 ≡ a → (b : Bool)
-        → importLeaves (imported (cond a (cond b Nothing (Is (refuse 17 1 (32 * n)))) (Is (refuse 1 0 0))) n) x d
-        ≡ importLeaves (imported (cond a (cond b Nothing (Is (refuse 17 1 (32 * n)))) (Is (refuse 1 0 0))) n) y d
+        → leftAfter (hasImported (imported (cond a (cond b Nothing (Is (refuse 17 1 (32 * n)))) (Is (refuse 1 0 0))) n)) x d
+        ≡ leftAfter (hasImported (imported (cond a (cond b Nothing (Is (refuse 17 1 (32 * n)))) (Is (refuse 1 0 0))) n)) y d
     go true e true = rw (h (leb-true n 256 e))
     go true e false = refl
     go false e b = refl

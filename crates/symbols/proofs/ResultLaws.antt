@@ -16,9 +16,9 @@ use Rattle.records.specs.declared.tables.Kind.the-variants.{Holdings}
 use Rattle.records.proofs.ChunkLaws.{length-chunks}
 use Rattle.records.proofs.ListLaws.{all-map, map-all}
 use Rattle.records.proofs.PassLaws.{unclear, each-pass}
-use Rattle.records.proofs.PutLaws.{put-front, put-past}
+use Rattle.records.proofs.PutLaws.{left-stands}
 use Rattle.records.proofs.TableLaws.{whole}
-use Rattle.symbols.specs.Calls.{legOfLine, recordsFor, holdingsOf, goodUnpaid, lineOfRecord, linesFor, importOf, importLeaves, listOf, exportOf, exportLeaves}
+use Rattle.symbols.specs.Calls.{legOfLine, recordsFor, holdingsOf, goodUnpaid, lineOfRecord, linesFor, importOf, listOf, exportOf}
 use Rattle.symbols.specs.Demands.{ImportInOrder, ExportInOrder, ListFits, CallsImportBack, CallsExportBack, ImportSound, ImportUnpaid, EmptyListGood, LeftByImport, ImportLeaves, LeftByExport, ExportLeaves}
 use Rattle.symbols.specs.Lines.{linesOf}
 use Rattle.symbols.specs.Roots.{rootsOf}
@@ -98,7 +98,6 @@ list-fits t h room n e =
 -- ---- one after the other
 
 pub calls-import-back : CallsImportBack
-unfolding exportLeaves importLeaves
 calls-import-back t h out d n a e k =
     let r = import-of-export t h a (length out) n e in
     let q = export-clear t h (length out) n e .1 in
@@ -106,7 +105,6 @@ calls-import-back t h out d n a e k =
     rw l (r .0 (length d) k, rw (r .1))
 
 pub calls-export-back : CallsExportBack
-unfolding exportLeaves importLeaves
 calls-export-back t list d out n e k =
     let c = import-clear t list (length d) n e in
     let r = export-of-import t list (length d) n e in
@@ -117,19 +115,17 @@ calls-export-back t list d out n e k =
 -- ---- what is left in a lent slice
 
 pub import-leaves : ImportLeaves
-unfolding importLeaves
 import-leaves t list d = go (importOf t list (length d)) refl
   where
     go : (r : Imported) → importOf t list (length d) ≡ r → LeftByImport r t list d
     go (Records n) e =
         let c = import-clear t list (length d) n e in
-        (made-length t list (c .0) ∙ rw (c .1), (put-front d (holdingsOf t list), put-past d (holdingsOf t list)))
+        (made-length t list (c .0) ∙ rw (c .1), left-stands d (holdingsOf t list))
     go (Refused r) e = refl
 
 pub export-leaves : ExportLeaves
-unfolding exportLeaves
 export-leaves t h d = go (exportOf t h (length d)) refl
   where
     go : (r : Exported) → exportOf t h (length d) ≡ r → LeftByExport r t h d
-    go (Bytes n) e = (sym (export-clear t h (length d) n e .1), (put-front d (listOf t h), put-past d (listOf t h)))
+    go (Bytes n) e = (sym (export-clear t h (length d) n e .1), left-stands d (listOf t h))
     go (NotExported r) e = refl

@@ -1,6 +1,6 @@
 -- What import and export answer, and what they leave in the slice that they are lent.
 use Prim.Native.Nat.{ℕ, _+_, _*_}
-use mathlib.Core.Bool.{Bool, not, _&&_}
+use mathlib.Core.Bool.{Bool, true, false, not, _&&_}
 use mathlib.Core.List.{List, [], _∷_, _++_, map, flatten}
 use lib.Dec.{leb, ltb}
 use lib.ListN.{length, getD}
@@ -8,7 +8,6 @@ use Rattle.records.specs.Chunks.{recordsOf}
 use Rattle.records.specs.Legs.{legOf, legBytes, isPaid}
 use Rattle.records.specs.Order.{Check, ask, firstOf}
 use Rattle.records.specs.Tables.{mostLegs, goodRecord, wholeTable}
-use Rattle.records.specs.Written.{putAt}
 use Rattle.records.specs.declared.legs.Leg.{Leg}
 use Rattle.records.specs.declared.refusals.Fault.{Fault}
 use Rattle.records.specs.declared.refusals.Fault.the-variants.{Nothing, Is}
@@ -61,10 +60,10 @@ imported (Is r) records = Refused r
 unfoldable pub importOf : List ℕ → List ℕ → ℕ → Imported
 importOf roots list room = imported (firstOf (importChecks roots list room)) (length (linesOf list))
 
--- what the lent table holds then: the holdings from byte 0, what lies past them stays; on a refusal all stays
-unfoldable pub importLeaves : Imported → List ℕ → List ℕ → List ℕ
-importLeaves (Records n) holdings d = putAt d 0 holdings
-importLeaves (Refused r) holdings d = d
+-- whether the lent table then has the holdings, `leftAfter`
+abbrev pub hasImported : Imported → Bool
+hasImported (Records n) = true
+hasImported (Refused r) = false
 
 -- ---- 'export is the reverse'
 
@@ -114,6 +113,6 @@ exported (Is r) bytes = NotExported r
 unfoldable pub exportOf : List ℕ → List ℕ → ℕ → Exported
 exportOf roots holdings room = exported (firstOf (exportChecks roots holdings room)) (length (listOf roots holdings))
 
-unfoldable pub exportLeaves : Exported → List ℕ → List ℕ → List ℕ
-exportLeaves (Bytes n) list d = putAt d 0 list
-exportLeaves (NotExported r) list d = d
+abbrev pub hasExported : Exported → Bool
+hasExported (Bytes n) = true
+hasExported (NotExported r) = false

@@ -3,19 +3,19 @@
 use Prim.Native.Nat.{ℕ, _*_, _/_, _≤_, _<_}
 use mathlib.Core.Path.{_≡_}
 use mathlib.Core.List.{List, [], map}
-use lib.ListN.{length, getD, take, drop}
+use lib.ListN.{length, getD, take}
 use Rattle.records.specs.Bytes.{AllBytes}
 use Rattle.records.specs.Chunks.{recordsOf}
 use Rattle.records.specs.Lists.{All}
 use Rattle.records.specs.Order.{firstOf}
 use Rattle.records.specs.Tables.{countedOf, legsOf}
-use Rattle.records.specs.Written.{putAt}
+use Rattle.records.specs.Written.{putAt, leftAfter, StandsFirst}
 use Rattle.records.specs.declared.refusals.Fault.the-variants.{Nothing}
 use Rattle.records.specs.declared.tables.Kind.the-variants.{Holdings}
 use Rattle.records.specs.declared.tables.Counted.the-variants.{Records as Counts}
 use Rattle.symbols.specs.Roots.{rootsOf, nameOf, termsOf, rootChecks}
 use Rattle.symbols.specs.Lines.{linesOf}
-use Rattle.symbols.specs.Calls.{legOfLine, holdingsOf, importOf, importLeaves, lineOfRecord, listOf, exportOf, exportLeaves}
+use Rattle.symbols.specs.Calls.{legOfLine, holdingsOf, importOf, lineOfRecord, listOf, exportOf, hasImported, hasExported}
 use Rattle.symbols.specs.declared.imports.Imported.{Imported}
 use Rattle.symbols.specs.declared.imports.Imported.the-variants.{Records, Refused}
 use Rattle.symbols.specs.declared.exports.Exported.{Exported}
@@ -38,14 +38,14 @@ ExportOfImport = (roots list : List ℕ) (room n : ℕ) → importOf roots list 
 -- with room, and the holdings stand there from byte 0.
 abbrev pub CallsImportBack : Type 0
 CallsImportBack = (roots h out d : List ℕ) (n : ℕ) → AllBytes h → exportOf roots h (length out) ≡ Bytes n → length h ≤ length d
-    → (let list = take n (exportLeaves (Bytes n) (listOf roots h) out) in
-    (importOf roots list (length d) ≡ Records (length h / 32)) × (importLeaves (Records (length h / 32)) (holdingsOf roots list) d ≡ putAt d 0 h))
+    → (let list = take n (leftAfter (hasExported (Bytes n)) (listOf roots h) out) in
+    (importOf roots list (length d) ≡ Records (length h / 32)) × (leftAfter (hasImported (Records (length h / 32))) (holdingsOf roots list) d ≡ putAt d 0 h))
 
 -- The n records that import leaves in a lent table are exported into any lent list with room, and the list stands there from byte 0.
 abbrev pub CallsExportBack : Type 0
 CallsExportBack = (roots list d out : List ℕ) (n : ℕ) → importOf roots list (length d) ≡ Records n → length list ≤ length out
-    → (let h = take (32 * n) (importLeaves (Records n) (holdingsOf roots list) d) in
-    (exportOf roots h (length out) ≡ Bytes (length list)) × (exportLeaves (Bytes (length list)) (listOf roots h) out ≡ putAt out 0 list))
+    → (let h = take (32 * n) (leftAfter (hasImported (Records n)) (holdingsOf roots list) d) in
+    (exportOf roots h (length out) ≡ Bytes (length list)) × (leftAfter (hasExported (Bytes (length list))) (listOf roots h) out ≡ putAt out 0 list))
 
 -- so that no two lists say the same holdings
 abbrev pub OneList : Type 0
@@ -90,22 +90,19 @@ EmptyListGood = (roots : List ℕ) (room : ℕ) → firstOf (rootChecks roots) �
 
 -- ---- 'Nothing lent is written' on a refusal; 'what lies past its output in a lent slice stays'
 
-abbrev pub Leaves : List ℕ → List ℕ → List ℕ → Type 0
-Leaves entries before after = (take (length entries) after ≡ entries) × (drop (length entries) after ≡ drop (length entries) before)
-
 -- what an answer of import leaves in the lent table d
 abbrev pub LeftByImport : Imported → List ℕ → List ℕ → List ℕ → Type 0
 LeftByImport (Records n) roots list d =
-    (length (holdingsOf roots list) ≡ 32 * n) × Leaves (holdingsOf roots list) d (importLeaves (Records n) (holdingsOf roots list) d)
-LeftByImport (Refused r) roots list d = importLeaves (Refused r) (holdingsOf roots list) d ≡ d
+    (length (holdingsOf roots list) ≡ 32 * n) × StandsFirst (holdingsOf roots list) d (leftAfter (hasImported (Records n)) (holdingsOf roots list) d)
+LeftByImport (Refused r) roots list d = leftAfter (hasImported (Refused r)) (holdingsOf roots list) d ≡ d
 
 abbrev pub ImportLeaves : Type 0
 ImportLeaves = (roots list d : List ℕ) → LeftByImport (importOf roots list (length d)) roots list d
 
 -- what an answer of export leaves in the lent list d
 abbrev pub LeftByExport : Exported → List ℕ → List ℕ → List ℕ → Type 0
-LeftByExport (Bytes n) roots h d = (length (listOf roots h) ≡ n) × Leaves (listOf roots h) d (exportLeaves (Bytes n) (listOf roots h) d)
-LeftByExport (NotExported r) roots h d = exportLeaves (NotExported r) (listOf roots h) d ≡ d
+LeftByExport (Bytes n) roots h d = (length (listOf roots h) ≡ n) × StandsFirst (listOf roots h) d (leftAfter (hasExported (Bytes n)) (listOf roots h) d)
+LeftByExport (NotExported r) roots h d = leftAfter (hasExported (NotExported r)) (listOf roots h) d ≡ d
 
 abbrev pub ExportLeaves : Type 0
 ExportLeaves = (roots h d : List ℕ) → LeftByExport (exportOf roots h (length d)) roots h d

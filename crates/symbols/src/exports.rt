@@ -5,9 +5,9 @@ ghost use Prim.Native.Nat.{_+_, _≤_, _<_, _/_};
 ghost use lib.ListN.{length, take};
 ghost use Rattle.records.specs.Chunks.{chunkAt, recordsOf};
 ghost use Rattle.records.specs.Order.{firstOf};
-ghost use Rattle.records.specs.Written.{putAt};
+ghost use Rattle.records.specs.Written.{putAt, leftAfter};
 ghost use Rattle.symbols.specs.Roots.{rootsOf};
-ghost use Rattle.symbols.specs.Calls.{lineOfRecord, recordChecks, listRoom, exported, exportOf, exportLeaves, listOf};
+ghost use Rattle.symbols.specs.Calls.{lineOfRecord, recordChecks, listRoom, exported, exportOf, listOf, hasExported};
 ghost use Rattle.symbols.specs.Steps.{recordNumber};
 use crate::bytes::copy_to;
 use crate::lines::LIST_TABLE;
@@ -97,7 +97,7 @@ fn take_records(roots: &[u8], holdings: &[u8], text: &mut [u8]) -> Exported
 fn put_list(text: &[u8], n: usize, list: &mut [u8]) -> Exported
     requires { ⌜ n ≤ length (now text) ⌝ }
     ensures { λ r. ⌜ r ≡ exported (firstOf (listRoom n (length (now (list .entry))))) n ⌝ }
-    ensures { λ r. ⌜ now (list .exit) ≡ exportLeaves r (take n (now (text .entry))) (now (list .entry)) ⌝ }
+    ensures { λ r. ⌜ now (list .exit) ≡ leftAfter (hasExported r) (take n (now (text .entry))) (now (list .entry)) ⌝ }
 {
     if list.len() < n {
         return Exported::Refused(Refusal {
@@ -114,7 +114,7 @@ fn put_list(text: &[u8], n: usize, list: &mut [u8]) -> Exported
 fn export_records(roots: &[u8], holdings: &[u8], list: &mut [u8]) -> Exported
     requires { ⌜ length (now holdings) / 32 ≤ 256 ⌝ }
     ensures { λ r. ⌜ r ≡ exported (firstOf (recordChecks (rootsOf (now (roots .entry))) 0 (recordsOf (now (holdings .entry))) ++ listRoom (length (listOf (now (roots .entry)) (now (holdings .entry)))) (length (now (list .entry))))) (length (listOf (now (roots .entry)) (now (holdings .entry)))) ⌝ }
-    ensures { λ r. ⌜ now (list .exit) ≡ exportLeaves r (listOf (now (roots .entry)) (now (holdings .entry))) (now (list .entry)) ⌝ }
+    ensures { λ r. ⌜ now (list .exit) ≡ leftAfter (hasExported r) (listOf (now (roots .entry)) (now (holdings .entry))) (now (list .entry)) ⌝ }
 {
     let mut text = [0u8; LINE_ROOM];
     match take_records(roots, holdings, &mut text) {
@@ -127,7 +127,7 @@ fn export_records(roots: &[u8], holdings: &[u8], list: &mut [u8]) -> Exported
 // list; what lies past them stays. On a refusal nothing is written.
 pub fn export(roots: &[u8], holdings: &[u8], list: &mut [u8]) -> Exported
     ensures { λ r. ⌜ r ≡ exportOf (now (roots .entry)) (now (holdings .entry)) (length (now (list .entry))) ⌝ }
-    ensures { λ r. ⌜ now (list .exit) ≡ exportLeaves r (listOf (now (roots .entry)) (now (holdings .entry))) (now (list .entry)) ⌝ }
+    ensures { λ r. ⌜ now (list .exit) ≡ leftAfter (hasExported r) (listOf (now (roots .entry)) (now (holdings .entry))) (now (list .entry)) ⌝ }
 {
     match root_fault(roots) {
         Fault::Is(refusal) => Exported::Refused(refusal),

@@ -5,10 +5,10 @@ ghost use Prim.Native.Nat.{_*_, _≤_, _<_};
 ghost use lib.ListN.{length, take};
 ghost use Rattle.records.specs.Legs.{legBytes};
 ghost use Rattle.records.specs.Order.{firstOf};
-ghost use Rattle.records.specs.Written.{putAt};
+ghost use Rattle.records.specs.Written.{putAt, leftAfter};
 ghost use Rattle.symbols.specs.Lines.{linesOf};
 ghost use Rattle.symbols.specs.Roots.{rootsOf};
-ghost use Rattle.symbols.specs.Calls.{legOfLine, lineChecks, recordsFor, recordRoom, imported, importOf, importLeaves, holdingsOf};
+ghost use Rattle.symbols.specs.Calls.{legOfLine, lineChecks, recordsFor, recordRoom, imported, importOf, holdingsOf, hasImported};
 ghost use Rattle.symbols.specs.Steps.{lineNumber};
 use crate::bytes::copy_to;
 use crate::lines::LIST_TABLE;
@@ -91,7 +91,7 @@ fn take_lines(roots: &[u8], list: &[u8], rows: &mut [u8]) -> Imported
 fn put_rows(rows: &[u8], n: usize, holdings: &mut [u8]) -> Imported
     requires { ⌜ 8192 ≤ length (now rows) ⌝ }
     ensures { λ r. ⌜ r ≡ imported (firstOf (recordRoom n (length (now (holdings .entry))))) n ⌝ }
-    ensures { λ r. ⌜ now (holdings .exit) ≡ importLeaves r (take (32 * n) (now (rows .entry))) (now (holdings .entry)) ⌝ }
+    ensures { λ r. ⌜ now (holdings .exit) ≡ leftAfter (hasImported r) (take (32 * n) (now (rows .entry))) (now (holdings .entry)) ⌝ }
 {
     if MOST_LEGS < n {
         return Imported::Refused(Refusal {
@@ -115,7 +115,7 @@ fn put_rows(rows: &[u8], n: usize, holdings: &mut [u8]) -> Imported
 // The records stand in rows of their own until every line is judged.
 fn import_lines(roots: &[u8], list: &[u8], holdings: &mut [u8]) -> Imported
     ensures { λ r. ⌜ r ≡ imported (firstOf (lineChecks (rootsOf (now (roots .entry))) 0 (linesOf (now (list .entry))) ++ recordRoom (length (linesOf (now (list .entry)))) (length (now (holdings .entry))))) (length (linesOf (now (list .entry)))) ⌝ }
-    ensures { λ r. ⌜ now (holdings .exit) ≡ importLeaves r (holdingsOf (now (roots .entry)) (now (list .entry))) (now (holdings .entry)) ⌝ }
+    ensures { λ r. ⌜ now (holdings .exit) ≡ leftAfter (hasImported r) (holdingsOf (now (roots .entry)) (now (list .entry))) (now (holdings .entry)) ⌝ }
 {
     let mut rows = [0u8; RECORD_ROOM];
     match take_lines(roots, list, &mut rows) {
@@ -128,7 +128,7 @@ fn import_lines(roots: &[u8], list: &[u8], holdings: &mut [u8]) -> Imported
 // table; what lies past them stays. On a refusal nothing is written.
 pub fn import(roots: &[u8], list: &[u8], holdings: &mut [u8]) -> Imported
     ensures { λ r. ⌜ r ≡ importOf (now (roots .entry)) (now (list .entry)) (length (now (holdings .entry))) ⌝ }
-    ensures { λ r. ⌜ now (holdings .exit) ≡ importLeaves r (holdingsOf (now (roots .entry)) (now (list .entry))) (now (holdings .entry)) ⌝ }
+    ensures { λ r. ⌜ now (holdings .exit) ≡ leftAfter (hasImported r) (holdingsOf (now (roots .entry)) (now (list .entry))) (now (holdings .entry)) ⌝ }
 {
     match root_fault(roots) {
         Fault::Is(refusal) => Imported::Refused(refusal),

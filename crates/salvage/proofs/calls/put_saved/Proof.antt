@@ -7,10 +7,11 @@ use borrow.Author.Needs.{needs}
 use Rattle.records.specs.Order.{firstOf}
 use Rattle.records.specs.declared.refusals.Fault.the-variants.{Nothing}
 use Rattle.blocks.specs.File.{Tables, tables, fileOf}
-use Rattle.blocks.specs.Writer.{filled}
+use Rattle.records.specs.Written.{leftAfter}
+use Rattle.blocks.specs.Writer.{hasWritten}
 use Rattle.blocks.specs.declared.answers.Writing.{Writing}
 use Rattle.blocks.proofs.Laws.{length-file, file-bytes, write-done}
-use Rattle.salvage.specs.Calls.{roomChecks, left}
+use Rattle.salvage.specs.Calls.{roomChecks}
 use Rattle.salvage.proofs.CallLaws.{room-pass}
 use Rattle.salvage.proofs.calls.put_saved.Statement.{statement}
 use Rattle.salvage.proofs.calls.put_saved.Tie as tie
@@ -56,13 +57,11 @@ copy-to-requires c κs =
     h
 
 returns : tie.Need-returns
-unfolding left
 returns c =
     let f = c .before .before .before in
     (rw (sym (fault-is f) ∙ c .before .refusal .given .1), (refl, (refl, refl)))
 
 returns-2 : tie.Need-returns-2
-unfolding left filled
 returns-2 c =
     let y = c .before .before in
     let x = y .before .before .before .before in
@@ -74,7 +73,7 @@ returns-2 c =
     let out = now (z .args .out) in
     let done = write-done o (t z) (length out) (z .pre .0) (omega (arith, room-pass _ _ _ _ _ (none e) .0, length-file o (t z))) in (
       rw (none e, need b),
-      (w .write-file .ensures .1 ∙ ap (λ (r : Writing). filled r o (t z) out) (w .write-file .ensures .0 ∙ done), (x .copy-indices .ensures, y .copy-to .ensures)),
+      (w .write-file .ensures .1 ∙ ap (λ (r : Writing). leftAfter (hasWritten r) (fileOf o (t z)) out) (w .write-file .ensures .0 ∙ done), (x .copy-indices .ensures, y .copy-to .ensures)),
     )
 
 pub put-saved-spec : {M : Type 1} → statement M

@@ -5,12 +5,12 @@ use lib.Seq.{length-take-le}
 use borrow.Author.Needs.{needs}
 use borrow.Author.Tests.{le-leb, lt-leb}
 use Rattle.records.specs.Order.{firstOf}
-use Rattle.symbols.specs.Calls.{listRoom, exportLeaves}
+use Rattle.symbols.specs.Calls.{listRoom}
 use Rattle.symbols.proofs.exports.put_list.Statement.{statement}
 use Rattle.symbols.proofs.exports.put_list.Tie as tie
 
 returns : tie.Need-returns
-unfolding listRoom firstOf exportLeaves
+unfolding listRoom firstOf
 returns c = (rw (lt-leb _ _ (c .if1 .taken)), refl)
 
 slice-aggregate-copy-to : tie.Need-slice-aggregate-copy-to
@@ -20,7 +20,7 @@ copy-to-requires : tie.Need-copy-to-requires
 copy-to-requires c κs = simp length-take (omega arith)
 
 returns-2 : tie.Need-returns-2
-unfolding listRoom firstOf exportLeaves
+unfolding listRoom firstOf
 returns-2 c =
     let k = c .before .before in
     (rw (le-leb _ _ (k .before .before .before .if1 .left)), k .copy-to .ensures)

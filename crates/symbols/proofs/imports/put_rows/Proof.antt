@@ -5,16 +5,16 @@ use lib.Seq.{length-take-le}
 use borrow.Author.Needs.{needs}
 use borrow.Author.Tests.{le-leb, lt-leb}
 use Rattle.records.specs.Order.{firstOf}
-use Rattle.symbols.specs.Calls.{recordRoom, importLeaves}
+use Rattle.symbols.specs.Calls.{recordRoom}
 use Rattle.symbols.proofs.imports.put_rows.Statement.{statement}
 use Rattle.symbols.proofs.imports.put_rows.Tie as tie
 
 returns : tie.Need-returns
-unfolding recordRoom firstOf importLeaves
+unfolding recordRoom firstOf
 returns c = (rw (lt-leb _ _ (c .if1 .taken)), refl)
 
 returns-2 : tie.Need-returns-2
-unfolding recordRoom firstOf importLeaves
+unfolding recordRoom firstOf
 returns-2 c =
     (rw (c .table-number .ensures, le-leb _ _ (c .before .before .if1 .left), lt-leb _ _ (c .before .if2 .taken)), refl)
 
@@ -25,7 +25,7 @@ copy-to-requires : tie.Need-copy-to-requires
 copy-to-requires c κs = simp length-take (omega arith)
 
 returns-3 : tie.Need-returns-3
-unfolding recordRoom firstOf importLeaves
+unfolding recordRoom firstOf
 returns-3 c =
     let k = c .before .before in
     let t = k .before .before .before in
