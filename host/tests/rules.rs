@@ -11,10 +11,14 @@ use usm_kit::accounts::{leg, placed};
 use usm_kit::both::BOTH;
 use usm_kit::repository;
 
-const PAGES: [&str; 5] = [
+const PAGES: [&str; 9] = [
     "README.md",
     "docs/RULES.md",
     "docs/ARCHITECTURE.md",
+    "docs/PROMISES.md",
+    "docs/DECISIONS.md",
+    "docs/OPEN.md",
+    "docs/BENCHMARK.md",
     "host/README.md",
     "host/tests/transcript/README.md",
 ];
