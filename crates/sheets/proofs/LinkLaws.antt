@@ -17,16 +17,13 @@ use Rattle.sheets.specs.Numbered.{alike, Numbered}
 use Rattle.sheets.specs.Links.{bucketOf, digitsOf, restOf, linkBelow, Unlinked, Rising, Ends}
 use Rattle.sheets.specs.Links as links-of
 use Rattle.sheets.specs.declared.links.Digits.{Digits}
+use Rattle.sheets.proofs.WordLaws.{same-digits}
 use Rattle.sheets.proofs.NumberLaws.{numbered-none, numbered-new, numbered-old}
 
--- legs of one line and side have the same bucket and the same digits
+-- legs of one line and side have the same bucket
 same-bucket : (x y : Leg) → sameLineSide x y ≡ true → bucketOf x ≡ bucketOf y
 unfolding bucketOf
 same-bucket x y e = let l = same? x y .0 e in cc
-
-same-digits : (x y : Leg) → sameLineSide x y ≡ true → digitsOf x ≡ digitsOf y
-unfolding digitsOf
-same-digits x y e = let l = same? x y .0 e in cc
 
 bucket-small : (k : ℕ) (x : Leg) → bucketOf x < 509 + 8 * k
 unfolding bucketOf

@@ -3,7 +3,7 @@
 use mathlib.Core.Path.{_≡_}
 use mathlib.Core.Bool.{true, false, cond}
 use mathlib.Core.List.{List}
-use Prim.Native.Nat.{ℕ, suc, _+_, _*_, _/_, _%_, _<_}
+use Prim.Native.Nat.{ℕ, suc, _+_, _*_, _/_, _%_, _≤_, _<_}
 use lib.Dec.{ltb}
 use lib.ListN.{getD}
 use Rattle.records.specs.declared.legs.Leg.{Leg}
@@ -18,21 +18,21 @@ bucketOf l = (l .strike + 3 * l .expiry + 31 * l .underlying + 7 * l .side + 5 *
 abbrev pub sortsOf : Leg → ℕ
 sortsOf l = l .side + 2 * l .right + 4 * l .style + 8 * l .market + 16 * l .settlement
 
--- the line and side of a leg as two numbers, read digit by digit to the base 8
+-- the line and side of a leg as one number in two words, read digit by digit to the base 8
 unfoldable pub digitsOf : Leg → Digits
 digitsOf l =
     record {
-      these = l .strike + 134217728 * l .expiry;
-      those = l .underlying + 4294967296 * l .size + 4398046511104 * sortsOf l;
+      low = l .strike + 134217728 * l .expiry;
+      high = l .underlying + 4294967296 * l .size + 4398046511104 * sortsOf l;
     }
 
 -- the digits after the first
 unfoldable pub restOf : Digits → Digits
-restOf d = cond (ltb (d .these) 8) (record { these = d .those; those = 0 }) (record { these = d .these / 8; those = d .those })
+restOf d = cond (ltb (d .low) 8) (record { low = d .high; high = 0 }) (record { low = d .low / 8; high = d .high })
 
 -- the link of record j for the first digit
 unfoldable pub linkBelow : ℕ → Digits → ℕ
-linkBelow j d = 509 + 8 * j + d .these % 8
+linkBelow j d = 509 + 8 * j + d .low % 8
 
 -- no link leads anywhere
 abbrev pub Unlinked : List ℕ → Type 0
@@ -47,3 +47,27 @@ pub data Ends (leg : ℕ → Leg) (links : List ℕ) (x : Leg) : Digits → ℕ 
   free : {d : Digits} {l end : ℕ} → end ≡ l → getD links l 0 ≡ 0 → Ends leg links x d l end
   met : {d : Digits} {l end : ℕ} (j : ℕ) → end ≡ l → getD links l 0 ≡ suc j → alike leg x j ≡ true → Ends leg links x d l end
   on : {d : Digits} {l end : ℕ} (j : ℕ) → getD links l 0 ≡ suc j → alike leg x j ≡ false → Ends leg links x (restOf d) (linkBelow j d) end → Ends leg links x d l end
+
+-- a line and side that its two words give back: each field has room in its part of them
+pub record Packed (l : Leg) : Type 0 where
+  pub side : (1 ≤ l .side) × (l .side ≤ 2)
+  pub right : (1 ≤ l .right) × (l .right ≤ 2)
+  pub style : (1 ≤ l .style) × (l .style ≤ 2)
+  pub market : (1 ≤ l .market) × (l .market ≤ 2)
+  pub size : l .size < 1024
+  pub underlying : l .underlying < 4294967296
+  pub strike : l .strike < 134217728
+
+-- at the index of each linked record stand the words of its line and side
+pub record Worded (leg : ℕ → Leg) (lows highs : List ℕ) (j : ℕ) : Type 0 where
+  pub packed : Packed (leg j)
+  pub low : getD lows j 0 ≡ digitsOf (leg j) .low
+  pub high : getD highs j 0 ≡ digitsOf (leg j) .high
+
+abbrev pub AllWorded : (ℕ → Leg) → List ℕ → List ℕ → List ℕ → Type 0
+AllWorded leg lows highs links = (l j : ℕ) → getD links l 0 ≡ suc j → Worded leg lows highs j
+
+-- where the search for x ends, among records of which the words are known
+abbrev pub EndsFor : List ℕ → List ℕ → List ℕ → Leg → ℕ → Type 0
+EndsFor lows highs links x end =
+    (leg : ℕ → Leg) → AllWorded leg lows highs links → Packed x → Ends leg links x (digitsOf x) (bucketOf x) end

@@ -49,13 +49,13 @@ tally-requires : tie.Need-tally-requires
 tally-requires c κs =
     let n = c .before .before .before .before in
     let s = n .before .before .before .before .before .before .before in
-    ((omega arith, omega arith, omega arith), (λ i l. n .number-lines .ensures .0 .below i (omega arith), s .pre .1 .0 .1))
+    ((omega arith, omega arith, omega arith), (λ i l. n .number-lines .ensures .0 .below i (omega arith), s .pre .1 .1 .0 .1))
 
 tally-requires-2 : tie.Need-tally-requires-2
 tally-requires-2 c κs =
     let n = c .before .before .before .before .before .before .before .before .before in
     let s = n .before .before .before .before .before .before .before in
-    ((omega arith, omega arith, omega arith), (λ i l. n .number-lines .ensures .0 .below i (omega arith), s .pre .1 .1 .1))
+    ((omega arith, omega arith, omega arith), (λ i l. n .number-lines .ensures .0 .below i (omega arith), s .pre .1 .1 .1 .1))
 
 -- what the search through either table asks of the numbers and the sums
 ready : (c : tie.After-tally2)

@@ -1,0 +1,35 @@
+use mathlib.Core.Path.{refl, sym, _∙_}
+use borrow.Author.Tests.{eq-eqb, ne-eqb}
+use borrow.Author.Needs.{needs}
+use Rattle.records.specs.Order.{firstOf}
+use Rattle.records.proofs.OrderLaws.{first-append}
+use Rattle.sheets.specs.Steps.{calledChecks}
+use Rattle.sheets.proofs.sheet.first_refusal.Statement.{statement}
+use Rattle.sheets.proofs.sheet.first_refusal.Tie as tie
+
+returns : tie.Need-returns
+unfolding calledChecks firstOf
+returns c = rw (eq-eqb _ _ (c .if1 .taken)) refl
+
+returns-2 : tie.Need-returns-2
+unfolding calledChecks firstOf
+returns-2 c =
+    let f = c .before .before .before in
+    rw (ne-eqb _ _ (f .before .if1 .left), first-append, sym (f .claimed-fault .ensures) ∙ c .before .earlier .given .1) refl
+
+returns-3 : tie.Need-returns-3
+unfolding calledChecks firstOf
+returns-3 c =
+    let f = c .before .before in
+    rw (ne-eqb _ _ (f .before .if1 .left), first-append, sym (f .claimed-fault .ensures) ∙ c .enum-told .given .1) refl
+
+pub first-refusal-spec : {M : Type 1} → statement M
+first-refusal-spec =
+    tie.close
+    (tie.spec
+    returns
+    (λ c κs. search needs)
+    (λ c. search needs)
+    (λ c. search needs)
+    returns-2
+    returns-3)
