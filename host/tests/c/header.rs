@@ -123,14 +123,15 @@ fn a_block_begins_as_the_header_says() {
     assert_eq!(last[at("USM_BLOCK_BLOCKS")], 39);
 }
 
+fn is_in_name(c: char) -> bool {
+    c.is_ascii_alphanumeric() || c == '_'
+}
+
 /// The names that start with `usm_` and are followed by an argument list.
 fn calls_named_in(source: &str) -> BTreeSet<&str> {
-    let names = source.split(|c: char| !(c.is_ascii_alphanumeric() || c == '_' || c == '('));
-    names
-        .filter_map(|word| word.split_once('('))
-        .map(|(name, _)| name)
-        .filter(|name| name.starts_with("usm_"))
-        .collect()
+    let (before_lists, _) = source.rsplit_once('(').unwrap_or_default();
+    let names = before_lists.split('(').filter_map(|text| text.rsplit(|c: char| !is_in_name(c)).next());
+    names.filter(|name| name.starts_with("usm_")).collect()
 }
 
 #[test]

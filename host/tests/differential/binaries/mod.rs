@@ -133,7 +133,7 @@ pub fn pair(case: &dyn Display, given: &Numbers) -> u64 {
     let answer = answer_of(|answer| {
         let bought = [long.reference, long.spread, long.expiry, long.contracts, paid];
         let written = [short.reference, short.spread, short.expiry, short.contracts];
-        ffi::binary_pair(valuation, bought, written, answer);
+        ffi::binary_pair(valuation, bought, written, answer)
     });
     let expected = match paid_of(paid) {
         Some(paid) => model::binary_pair(valuation, LongBinary { binary: long, paid }, short),
