@@ -8,6 +8,7 @@
 //! [`holdings_of_list`] from a list of option symbols, and [`salvage_file`] makes a sound file of a damaged
 //! one; [`binary_margin`] and [`binary_pair`] are for credit event binaries. [`sentences`] says for people
 //! what is wrong, [`text`] reads and writes sheets as text, and [`csv`] their tables as a spreadsheet does.
+//! [`ffi`] has the calls with their answers as C gets them.
 //!
 //! No call keeps any state: all may be made from any number of threads at once.
 

@@ -84,6 +84,8 @@ fn in_a_folder_only_regular_files_are_read() {
         assert_eq!(said.lines().filter(|line| *line == unread).count(), 1, "{said}");
     }
     assert!(said.contains("\n3 accepted, 1 refused, 2 not read; "), "{said}");
+    // Two links lead around: a walk that follows both would not end.
+    fs::remove_dir_all(folder.join("all")).expect("a folder of this test");
 }
 
 #[test]

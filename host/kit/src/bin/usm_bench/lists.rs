@@ -3,7 +3,7 @@
 use usm::{leg_table, list_of_holdings, root_table, Leg, Root, Table, LONGEST_LIST, MOST_LINES, MOST_ROOTS};
 use usm_kit::accounts::{in_group, leg, root};
 
-use crate::rows::{folded, row, Row};
+use crate::row::{folded, row, Row};
 
 /// As many as a member trades on a day.
 const FEW_ROOTS: usize = 8;

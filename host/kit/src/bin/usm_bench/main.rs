@@ -9,14 +9,16 @@
 #![forbid(unsafe_code)]
 
 mod binaries;
+mod calls;
 mod crafted;
 mod fills;
 mod inputs;
 mod lists;
+mod row;
 mod rows;
 mod times;
 
-use rows::Row;
+use row::Row;
 use times::{measure, Measured};
 
 fn main() {
