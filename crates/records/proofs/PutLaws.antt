@@ -8,8 +8,9 @@ use native.Mathlib.Numerals.{add-one}
 use native.Mathlib.Omega.{arith}
 use lib.ListN.{length, take, drop, getD, set, length-append, length-take, length-drop}
 use lib.Seq.{paste-zero, paste-suc, take-all, take-at, drop-at, drop-drop, drop-append-add, length-take-le, set-split}
+use borrow.Author.Tests.{le-leb, lt-leb}
 use borrow.Rule.Slice.PartMut.{putMid}
-use Rattle.records.specs.Written.{putAt, leftAfter, StandsFirst}
+use Rattle.records.specs.Written.{putAt, putInRoom, leftAfter, StandsFirst}
 
 module _ {A : Type 0} where
   -- a loop that writes the elements of s one by one: where it begins, a turn, and where it ends
@@ -93,6 +94,16 @@ module _ {A : Type 0} where
   -- a list as long as the slice is all that then stands there
   pub put-whole : (d s : List A) → length s ≡ length d → putAt d 0 s ≡ s
   put-whole d s e = sym (take-all (length s) (putAt d 0 s) (rw (length-putAt d 0 s (omega arith)) (omega arith))) ∙ put-front d s
+
+  -- ---- where there is room, and where there is none
+
+  pub put-room : (d : List A) (at : ℕ) (s : List A) → at + length s ≤ length d → putInRoom d at s ≡ putAt d at s
+  unfolding putInRoom
+  put-room d at s h = rw (le-leb (at + length s) (length d) h)
+
+  pub put-no-room : (d : List A) (at : ℕ) (s : List A) → length d < at + length s → putInRoom d at s ≡ d
+  unfolding putInRoom
+  put-no-room d at s h = rw (lt-leb (at + length s) (length d) h)
 
   -- ---- what a call leaves in a lent slice
 

@@ -17,6 +17,7 @@ use Rattle.records.proofs.ListLaws.{all-map}
 use Rattle.records.proofs.PassLaws.{clear}
 use Rattle.records.proofs.PutLaws.{put-front, left-stands}
 use Rattle.records.specs.Written.{leftAfter}
+use Rattle.blocks.specs.Sizes.{mostFileBytes}
 use Rattle.blocks.specs.Forms.{settled}
 use Rattle.blocks.specs.Block.{formOf, originOf}
 use Rattle.blocks.specs.File.{tablesOf, tablesIn, originIn, fileOf, withinLimits}
@@ -24,11 +25,11 @@ use Rattle.blocks.specs.RoundTrips.{Reads, Writes}
 use Rattle.blocks.specs.declared.forms.Origin.{Origin}
 use Rattle.blocks.specs.declared.answers.Alone.the-variants.{Sound}
 use Rattle.blocks.proofs.Laws.{kept-kept, read-writes-back, written-reads-back, is-sound}
-use Rattle.salvage.specs.Pieces.{mostBytes, piecesOf}
+use Rattle.salvage.specs.Pieces.{piecesOf}
 use Rattle.salvage.specs.Kept.{originFor, keptIn, droppedIn, soundFile}
-use Rattle.salvage.specs.Calls.{startChecks, roomChecks, endChecks, salvageChecks, answered, salvageOf, hasSaved}
-use Rattle.salvage.specs.Demands.{ComesOutSound, KeptAreSound, UndamagedSame, TwiceSame, LeftBy, SalvageLeaves}
-use Rattle.salvage.specs.Steps.{AllKept}
+use Rattle.salvage.specs.Calls.{salvageStart, salvageRoom, salvageEnd, salvageChecks, salvageAnswer, salvageCall, hasSaved}
+use Rattle.salvage.specs.Demands.{ComesOutSound, KeptAreSound, UndamagedSame, TwiceSame, LeftBySalvage, SalvageLeaves}
+use Rattle.salvage.specs.Steps.AllKept.{AllKept}
 use Rattle.salvage.specs.declared.calls.Salvaged.{Salvaged}
 use Rattle.salvage.specs.declared.calls.Salvaged.the-variants.{Saved, Refused}
 use Rattle.salvage.proofs.SoundLaws.{kept-is}
@@ -38,7 +39,7 @@ use Rattle.salvage.proofs.Undamaged.{all-kept, none-dropped, some-block
 
 -- ---- what a salvage that is not refused says
 
-answered-saved : (x : Fault) (a b n k : ℕ) → answered x a b ≡ Saved n k → (x ≡ Nothing) × (a ≡ n) × (b ≡ k)
+answered-saved : (x : Fault) (a b n k : ℕ) → salvageAnswer x a b ≡ Saved n k → (x ≡ Nothing) × (a ≡ n) × (b ≡ k)
 answered-saved Nothing a b n k e = (refl, cc, cc)
 answered-saved (Is r) a b n k e = absurd (let z : _≡_ {A = ℕ} 0 1 = cc in omega arith)
 
@@ -52,11 +53,11 @@ record Passes (bytes : List ℕ) (n k : ℕ) : Type 0 where
   size : length (soundFile bytes) ≡ n
   entries : length (droppedIn bytes) ≡ k
 
-saved-passes : (bytes : List ℕ) (o i m n k : ℕ) → salvageOf bytes o i m ≡ Saved n k → Passes bytes n k
-unfolding salvageOf salvageChecks startChecks endChecks
+saved-passes : (bytes : List ℕ) (o i m n k : ℕ) → salvageCall bytes o i m ≡ Saved n k → Passes bytes n k
+unfolding salvageCall salvageChecks salvageStart salvageEnd
 saved-passes bytes o i m n k e =
-    let start = startChecks (length bytes) (keptIn bytes) in
-    let end = endChecks (keptIn bytes) (length (soundFile bytes)) (length (droppedIn bytes)) o i m in
+    let start = salvageStart (length bytes) (keptIn bytes) in
+    let end = salvageEnd (keptIn bytes) (length (soundFile bytes)) (length (droppedIn bytes)) o i m in
     let x = answered-saved (firstOf (start ++ end)) (length (soundFile bytes)) (length (droppedIn bytes)) n k e in
     let p = clear (start ++ end) (x .0) in
     record { some = not-none (length (keptIn bytes)) (p .1 .0); limits = p .1 .1 .0; size = x .1; entries = x .2 }
@@ -111,11 +112,11 @@ module _ (f : List ℕ) (r : Reads f) (back : fileOf (originIn f) (tablesIn f) �
   same-out : soundFile f ≡ f
   same-out = sound-again f r ∙ back
 
-  saved-same : salvageOf f o i m ≡ Saved (length f) 0
-  unfolding roomChecks firstOf
+  saved-same : salvageCall f o i m ≡ Saved (length f) 0
+  unfolding salvageRoom firstOf
   saved-same =
       let few = bytes-few f r in
-      let within = within-is 1 mostBytes (length f) (few .0) (few .1) in
+      let within = within-is 1 mostFileBytes (length f) (few .0) (few .1) in
       let some : 1 ≤ length (keptIn f) = rw (all-kept f r) (some-blocks f r) in
       salvage-rest f o i m within some
       ∙ rw (
@@ -147,9 +148,9 @@ twice-same bytes out i m n k e room x y h =
 -- ---- lent memory
 
 salvage-leaves : SalvageLeaves
-salvage-leaves bytes d i m = go (salvageOf bytes (length d) (length i) (length m)) refl
+salvage-leaves bytes d i m = go (salvageCall bytes (length d) (length i) (length m)) refl
   where
-    go : (r : Salvaged) → salvageOf bytes (length d) (length i) (length m) ≡ r → LeftBy r bytes d i m
+    go : (r : Salvaged) → salvageCall bytes (length d) (length i) (length m) ≡ r → LeftBySalvage r bytes d i m
     go (Saved n k) e =
         let p = saved-passes bytes (length d) (length i) (length m) n k e in
         (p .size, p .entries, left-stands d (soundFile bytes), left-stands i (indicesOf (droppedIn bytes)), left-stands m (numbersOf (droppedIn bytes)))

@@ -9,7 +9,7 @@ use Rattle.records.specs.Chunks.{recordsOf}
 use Rattle.records.specs.Legs.{legOf, legBytes, isPaid}
 use Rattle.records.specs.Lists.{All}
 use Rattle.records.specs.Order.{firstOf}
-use Rattle.records.specs.Tables.{tableChecks, fieldChecks, countedOf, goodRecord, legsOf}
+use Rattle.records.specs.Tables.{tableChecks, fieldChecks, checkCall, goodRecord, legsOf, goodUnpaid}
 use Rattle.records.specs.Written.{putAt}
 use Rattle.records.specs.declared.refusals.Fault.the-variants.{Nothing}
 use Rattle.records.specs.declared.tables.Kind.the-variants.{Holdings}
@@ -18,7 +18,7 @@ use Rattle.records.proofs.ListLaws.{all-map, map-all}
 use Rattle.records.proofs.PassLaws.{unclear, each-pass}
 use Rattle.records.proofs.PutLaws.{left-stands}
 use Rattle.records.proofs.TableLaws.{whole}
-use Rattle.symbols.specs.Calls.{legOfLine, recordsFor, holdingsOf, goodUnpaid, lineOfRecord, linesFor, importOf, listOf, exportOf}
+use Rattle.symbols.specs.Calls.{legOfLine, recordsFor, holdingsOf, lineOfRecord, linesFor, importCall, listOf, exportCall}
 use Rattle.symbols.specs.Demands.{ImportInOrder, ExportInOrder, ListFits, CallsImportBack, CallsExportBack, ImportSound, ImportUnpaid, EmptyListGood, LeftByImport, ImportLeaves, LeftByExport, ExportLeaves}
 use Rattle.symbols.specs.Lines.{linesOf}
 use Rattle.symbols.specs.Roots.{rootsOf}
@@ -39,7 +39,7 @@ unfolding goodUnpaid
 unpaid-good roots xs t = and-eq-true-iff (goodRecord Holdings xs) (not (isPaid (legOf xs))) .0 (t .good) .0
 
 pub import-sound : ImportSound
-unfolding countedOf tableChecks fieldChecks firstOf
+unfolding checkCall tableChecks fieldChecks firstOf
 import-sound t list room n e =
     let c = import-clear t list room n e in
     let i = c .0 in
@@ -115,17 +115,17 @@ calls-export-back t list d out n e k =
 -- ---- what is left in a lent slice
 
 pub import-leaves : ImportLeaves
-import-leaves t list d = go (importOf t list (length d)) refl
+import-leaves t list d = go (importCall t list (length d)) refl
   where
-    go : (r : Imported) → importOf t list (length d) ≡ r → LeftByImport r t list d
+    go : (r : Imported) → importCall t list (length d) ≡ r → LeftByImport r t list d
     go (Records n) e =
         let c = import-clear t list (length d) n e in
         (made-length t list (c .0) ∙ rw (c .1), left-stands d (holdingsOf t list))
     go (Refused r) e = refl
 
 pub export-leaves : ExportLeaves
-export-leaves t h d = go (exportOf t h (length d)) refl
+export-leaves t h d = go (exportCall t h (length d)) refl
   where
-    go : (r : Exported) → exportOf t h (length d) ≡ r → LeftByExport r t h d
+    go : (r : Exported) → exportCall t h (length d) ≡ r → LeftByExport r t h d
     go (Bytes n) e = (sym (export-clear t h (length d) n e .1), left-stands d (listOf t h))
     go (NotExported r) e = refl

@@ -11,7 +11,7 @@ use Rattle.records.specs.Written.{leftAfter}
 use Rattle.blocks.specs.Writer.{hasWritten}
 use Rattle.records.specs.declared.refusals.Refusal.{Refusal}
 use Rattle.blocks.specs.File.{tablesIn, fileOf}
-use Rattle.blocks.specs.Moves.{moveOf}
+use Rattle.blocks.specs.Moves.{moveCall}
 use Rattle.blocks.specs.declared.forms.Form.{Form}
 use Rattle.blocks.specs.declared.forms.Origin.{Origin}
 use Rattle.blocks.specs.declared.answers.Writing.the-variants.{Wrote}
@@ -46,7 +46,7 @@ TableBoxes = (file : List ℕ) (n total work : ℕ) → fileVerdict file ≡ Acc
 
 -- request [6]: a file that was moved prints what it printed
 abbrev pub MovedTable : Type 0
-MovedTable = (from : Form) (to : Origin) (file out : List ℕ) (n : ℕ) → AllBytes file → moveOf from to file (length out) ≡ Wrote n
+MovedTable = (from : Form) (to : Origin) (file out : List ℕ) (n : ℕ) → AllBytes file → moveCall from to file (length out) ≡ Wrote n
     → tableText (take n (leftAfter (hasWritten (Wrote n)) (fileOf to (tablesIn file)) out)) ≡ tableText file
 
 -- 'A refused sheet prints only its REFUSE line'

@@ -4,7 +4,7 @@ use Prim.Native.Nat.{_≤_}
 use lib.ListN.{length}
 use borrow.Author.Needs.{needs}
 use Rattle.records.proofs.TableLaws.{within-true}
-use Rattle.salvage.specs.Pieces.{mostBytes}
+use Rattle.blocks.specs.Sizes.{mostFileBytes}
 use Rattle.salvage.proofs.CallLaws.{salvage-1, salvage-2}
 use Rattle.salvage.proofs.calls.salvage.Statement.{statement}
 use Rattle.salvage.proofs.calls.salvage.Tie as tie
@@ -13,8 +13,8 @@ abbrev start : tie.Then1 → tie.Start
 start t = t .before .before .before .before .before
 
 -- 1 to 19,968 bytes
-sized : (t : tie.Then1) → (1 ≤ length (now (start t .args .bytes))) × (length (now (start t .args .bytes)) ≤ mostBytes)
-sized t = within-true 1 mostBytes (length (now (start t .args .bytes))) (t .if1 .taken)
+sized : (t : tie.Then1) → (1 ≤ length (now (start t .args .bytes))) × (length (now (start t .args .bytes)) ≤ mostFileBytes)
+sized t = within-true 1 mostFileBytes (length (now (start t .args .bytes))) (t .if1 .taken)
 
 save-pieces-requires : tie.Need-save-pieces-requires
 save-pieces-requires c κs =

@@ -10,7 +10,7 @@ use borrow.Author.Needs.{needs}
 use Rattle.records.specs.Lists.{All}
 use Rattle.records.specs.declared.tables.Kind.the-variants.{Holdings, Placement, Claims}
 use Rattle.blocks.specs.File.{tables, blocksOf, tablesIn, withinLimits}
-use Rattle.blocks.specs.Steps.{Sized}
+use Rattle.blocks.specs.Steps.Bounds.{Sized}
 use Rattle.salvage.proofs.KeptTables.{kept-sound, sized-all}
 use Rattle.salvage.proofs.CallLaws.{whole-few, whole-limits, copied-front, writes-file, end-3, end-rest}
 use Rattle.salvage.proofs.calls.save_kept.Statement.{statement}

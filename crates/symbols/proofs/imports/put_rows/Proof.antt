@@ -1,10 +1,11 @@
-use mathlib.Core.Path.{refl, sym}
+use mathlib.Core.Path.{refl, sym, _∙_}
 use native.Mathlib.Omega.{arith}
 use lib.ListN.{length-take}
 use lib.Seq.{length-take-le}
 use borrow.Author.Needs.{needs}
 use borrow.Author.Tests.{le-leb, lt-leb}
 use Rattle.records.specs.Order.{firstOf}
+use Rattle.records.proofs.PutLaws.{put-room}
 use Rattle.symbols.specs.Calls.{recordRoom}
 use Rattle.symbols.proofs.imports.put_rows.Statement.{statement}
 use Rattle.symbols.proofs.imports.put_rows.Tie as tie
@@ -21,15 +22,12 @@ returns-2 c =
 slice-aggregate-copy-to : tie.Need-slice-aggregate-copy-to
 slice-aggregate-copy-to c = sym (length-take-le _ _ (omega arith))
 
-copy-to-requires : tie.Need-copy-to-requires
-copy-to-requires c κs = simp length-take (omega arith)
-
 returns-3 : tie.Need-returns-3
 unfolding recordRoom firstOf
 returns-3 c =
     let k = c .before .before in
     let t = k .before .before .before in
-    (rw (le-leb _ _ (t .before .if1 .left), le-leb _ _ (t .if2 .left)), k .copy-to .ensures)
+    (rw (le-leb _ _ (t .before .if1 .left), le-leb _ _ (t .if2 .left)), k .copy-to .ensures ∙ put-room _ 0 _ (simp length-take (omega arith)))
 
 pub put-rows-spec : {M : Type 1} → statement M
 put-rows-spec =
@@ -40,6 +38,6 @@ put-rows-spec =
     (λ c κs. search needs)
     returns-2
     slice-aggregate-copy-to
-    copy-to-requires
+    (λ c κs. search needs)
     (λ c. search needs)
     returns-3)
