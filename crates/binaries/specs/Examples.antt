@@ -17,8 +17,8 @@ abbrev pub position : ℕ → ℕ → ℕ → ℕ → Position
 position reference spread expiry contracts =
     record { reference = reference; spread = spread; expiry = expiry; contracts = contracts }
 
-abbrev pub bought : Bool → Position → LongPosition
-bought paid p = record { position = p; paid = paid }
+abbrev pub longPosition : Bool → Position → LongPosition
+longPosition paid p = record { position = p; paid = paid }
 
 abbrev pub mills : ℕ → Required
 mills n = Mills (pos n)
@@ -73,18 +73,18 @@ singles =
 unfoldable pub pairs : List Row
 pairs =
     -- as many long as short
-    row (pairCall day (bought true (plain 3)) (plain 3)) (mills 0)
+    row (pairCall day (longPosition true (plain 3)) (plain 3)) (mills 0)
     -- two of the long left, two of the short left
-    ∷ row (pairCall day (bought true (plain 5)) (plain 3)) (mills 50_000)
-    ∷ row (pairCall day (bought true (plain 3)) (plain 5)) (mills 100_000)
+    ∷ row (pairCall day (longPosition true (plain 5)) (plain 3)) (mills 50_000)
+    ∷ row (pairCall day (longPosition true (plain 3)) (plain 5)) (mills 100_000)
     -- not paid in full; another obligation; expiring first
-    ∷ row (pairCall day (bought false (plain 3)) (plain 3)) (mills 225_000)
-    ∷ row (pairCall day (bought true (position 8 250 20130302 3)) (plain 3)) (mills 225_000)
-    ∷ row (pairCall day (bought true (position 7 250 20130301 3)) (plain 3)) (mills 225_000)
+    ∷ row (pairCall day (longPosition false (plain 3)) (plain 3)) (mills 225_000)
+    ∷ row (pairCall day (longPosition true (position 8 250 20130302 3)) (plain 3)) (mills 225_000)
+    ∷ row (pairCall day (longPosition true (position 7 250 20130301 3)) (plain 3)) (mills 225_000)
     -- a field of the short before an expiry of the long
-    ∷ row (pairCall day (bought true (position 7 250 20110301 3)) (plain 0)) (refused 4 1)
-    ∷ row (pairCall 20110229 (bought true (plain 3)) (plain 0)) (refused 4 0)
+    ∷ row (pairCall day (longPosition true (position 7 250 20110301 3)) (plain 0)) (refused 4 1)
+    ∷ row (pairCall 20110229 (longPosition true (plain 3)) (plain 0)) (refused 4 0)
     -- both expired, then only the short
-    ∷ row (pairCall day (bought true (position 7 250 20110301 3)) (position 7 250 20110301 3)) (refused 25 0)
-    ∷ row (pairCall day (bought true (plain 3)) (position 7 250 20110301 3)) (refused 25 1)
+    ∷ row (pairCall day (longPosition true (position 7 250 20110301 3)) (position 7 250 20110301 3)) (refused 25 0)
+    ∷ row (pairCall day (longPosition true (plain 3)) (position 7 250 20110301 3)) (refused 25 1)
     ∷ []

@@ -7,7 +7,7 @@ ghost use Rattle.records.specs.Written.{putAt};
 ghost use Rattle.records.specs.declared.tables.Kind.the-variants.{Holdings, Placement, Claims};
 ghost use Rattle.blocks.specs.Forms.{inOld, inNew};
 ghost use Rattle.blocks.specs.File.{tables};
-ghost use Rattle.blocks.specs.Moves.{moveOf};
+ghost use Rattle.blocks.specs.Moves.{moveCall};
 ghost use Rattle.blocks.specs.declared.forms.Form.the-variants.{Old, New};
 ghost use Rattle.spreads.specs.Calls.{marginCall};
 ghost use Rattle.spreads.specs.Cash.{cashCall};
@@ -161,7 +161,7 @@ pub extern "C" fn usm_write_file(
 // A file of the old form, in the new one with this account's number, into a lent buffer.
 #[no_mangle]
 pub extern "C" fn usm_move_to_new(file: &[u8], account: u64, out: &mut [u8], answer: &mut [u64; 4])
-    ensures { λ _. ⌜ now (answer .exit) ≡ writingWords (moveOf Old (inNew account) (now (file .entry)) (length (now (out .entry)))) ⌝ }
+    ensures { λ _. ⌜ now (answer .exit) ≡ writingWords (moveCall Old (inNew account) (now (file .entry)) (length (now (out .entry)))) ⌝ }
     ensures { λ _. ⌜ now (out .exit) ≡ movedLeft Old (inNew account) (now (file .entry)) (now (out .entry)) ⌝ }
 {
     *answer = writing_words(blocks::to_new(file, account, out));
@@ -170,7 +170,7 @@ pub extern "C" fn usm_move_to_new(file: &[u8], account: u64, out: &mut [u8], ans
 // A file of the new form, in the old one, into a lent buffer.
 #[no_mangle]
 pub extern "C" fn usm_move_to_old(file: &[u8], out: &mut [u8], answer: &mut [u64; 4])
-    ensures { λ _. ⌜ now (answer .exit) ≡ writingWords (moveOf New inOld (now (file .entry)) (length (now (out .entry)))) ⌝ }
+    ensures { λ _. ⌜ now (answer .exit) ≡ writingWords (moveCall New inOld (now (file .entry)) (length (now (out .entry)))) ⌝ }
     ensures { λ _. ⌜ now (out .exit) ≡ movedLeft New inOld (now (file .entry)) (now (out .entry)) ⌝ }
 {
     *answer = writing_words(blocks::to_old(file, out));

@@ -1,8 +1,9 @@
 // Form and account as words: form 1 or 2, and the account's number.
 ghost use mathlib.Core.Path.{_≡_};
 ghost use lib.ListN.{length};
-ghost use Rattle.blocks.specs.File.{tables};
-ghost use Rattle.blocks.specs.Writer.{filled};
+ghost use Rattle.records.specs.Written.{leftAfter};
+ghost use Rattle.blocks.specs.Writer.{hasWritten};
+ghost use Rattle.blocks.specs.File.{tables, fileOf};
 ghost use Rattle.usm_c.specs.Answers.{originWords};
 ghost use Rattle.usm_c.specs.Outcomes.{originAs, writeAs};
 use blocks::Form;
@@ -34,7 +35,7 @@ pub(crate) fn write_as(
     out: &mut [u8],
 ) -> Writing
     ensures { λ r. ⌜ r ≡ writeAs form account (tables (now (holdings .entry)) (now (placement .entry)) (now (claims .entry))) (length (now (out .entry))) ⌝ }
-    ensures { λ r. ⌜ now (out .exit) ≡ filled r (originAs form account) (tables (now (holdings .entry)) (now (placement .entry)) (now (claims .entry))) (now (out .entry)) ⌝ }
+    ensures { λ r. ⌜ now (out .exit) ≡ leftAfter (hasWritten r) (fileOf (originAs form account) (tables (now (holdings .entry)) (now (placement .entry)) (now (claims .entry)))) (now (out .entry)) ⌝ }
 {
     match form {
         1 => {

@@ -9,7 +9,7 @@ use Rattle.records.specs.Lists.{keep}
 use Rattle.records.specs.Order.{firstOf}
 use Rattle.records.specs.declared.refusals.Fault.the-variants.{Nothing}
 use Rattle.blocks.specs.File.{originIn}
-use Rattle.blocks.specs.Reader.{judged}
+use Rattle.blocks.specs.Reader.{judgeCall}
 use Rattle.blocks.specs.declared.answers.Counts.{Counts}
 use Rattle.blocks.specs.declared.answers.Reading.the-variants.{Read}
 use Rattle.spreads.specs.Calls.{groupChecks}
@@ -20,7 +20,7 @@ use Rattle.verdicts.specs.TableText.{strikeLines}
 
 -- the file, of either form, has no fault, and so many records of each kind
 abbrev pub HasRecords : List ℕ → Counts → Type 0
-HasRecords file n = judged file ≡ Read n (originIn file)
+HasRecords file n = judgeCall file ≡ Read n (originIn file)
 
 -- the calls of group g refuse nothing of this placement
 abbrev pub Answered : List ℕ → ℕ → Type 0

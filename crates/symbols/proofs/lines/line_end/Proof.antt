@@ -3,7 +3,7 @@ use mathlib.Core.Path.{_≡_, refl}
 use native.Mathlib.Omega.{arith}
 use denote.Ref.{now}
 use lib.ListN.{length, drop}
-use Rattle.symbols.specs.Steps.{lineLength}
+use Rattle.symbols.specs.Steps.Numbers.{lineLength}
 use Rattle.symbols.proofs.RunLaws.{line-next, line-found, line-over}
 use Rattle.symbols.proofs.lines.line_end.Statement.{statement}
 use Rattle.symbols.proofs.lines.line_end.Tie as tie

@@ -2,11 +2,11 @@ use mathlib.Core.Path.{_≡_, refl, _∙_}
 use Prim.Native.Nat.{_-_, _≤_}
 use native.Mathlib.Omega.{arith}
 use borrow.Author.Needs.{needs}
 use Rattle.records.specs.Written.{putAt}
 use lib.ListN.{length, take, length-set}
 use Rattle.records.proofs.PutLaws.{put-none, put-more, put-all}
-use Rattle.salvage.proofs.bytes.copy_to.Statement.{statement}
-use Rattle.salvage.proofs.bytes.copy_to.Tie as tie
+use Rattle.records.proofs.bytes.copy_all.Statement.{statement}
+use Rattle.records.proofs.bytes.copy_all.Tie as tie
 
 abbrev Inv-loop : tie.InvT-loop
 Inv-loop to₀ at from i₀ to i = (i ≤ length from) × (length to ≡ length to₀) × (to ≡ putAt to₀ at (take i from))
@@ -29,8 +29,8 @@ returns c =
     let a = c .before .before .args in
     l .inv .2 ∙ put-all (a .to .now) (a .at) (a .from .now) (l .i) (omega arith)
 
-pub copy-to-spec : {M : Type 1} → statement M
-copy-to-spec =
+pub copy-all-spec : {M : Type 1} → statement M
+copy-all-spec =
     tie.close
     (tie.spec
     Inv-loop
