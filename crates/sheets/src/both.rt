@@ -5,8 +5,11 @@ use records::Leg;
 use records::MOST_LEGS;
 use records::RECORD_BYTES;
 
-// Most records of both tables, and how many are few.
+// Most records of both tables, and how many are few or some. Lists are lent in three sizes: they have to be cleared, and
+// that would take longer than the rest of the work where there are few records.
 pub(crate) const MOST_BOTH: usize = MOST_LEGS + MOST_LEGS;
+
+pub(crate) const SOME_BOTH: usize = 128;
 
 pub(crate) const FEW_BOTH: usize = 32;
 

@@ -6,6 +6,7 @@ ghost use lib.ListN.{length};
 ghost use Rattle.sheets.specs.Links.{bucketOf, sortsOf, digitsOf, restOf, linkBelow, Rising, EndsFor};
 use crate::both::FEW_BOTH;
 use crate::both::MOST_BOTH;
+use crate::both::SOME_BOTH;
 use crate::both::wide;
 use records::Leg;
 
@@ -13,8 +14,10 @@ const BUCKETS: usize = 509;
 
 const WAYS: usize = 8;
 
-// The links of as many records as there can be, and of few.
+// The links of as many records as there can be, of some, and of few.
 pub(crate) const MOST_LINKS: usize = BUCKETS + WAYS * MOST_BOTH;
+
+pub(crate) const SOME_LINKS: usize = BUCKETS + WAYS * SOME_BOTH;
 
 pub(crate) const FEW_LINKS: usize = BUCKETS + WAYS * FEW_BOTH;
 
