@@ -10,14 +10,14 @@ use lib.ListN.{length, getD, set}
 use lib.Seq.{getD-set-same, getD-set-other}
 use borrow.Author.Tests.{eqb-true, eqb-false, eq-eqb, lt-ltb, le-ltb}
 use Rattle.records.specs.Chunks.{chunkAt}
-use Rattle.records.specs.Lines.{lineSideOf, sameLineSide}
+use Rattle.records.specs.Lines.{legLineSide, sameLineSide}
 use Rattle.records.specs.declared.legs.Leg.{Leg}
 use Rattle.records.specs.declared.tables.Kind.the-variants.{Holdings, Placement}
 use Rattle.records.proofs.LineLaws.{same?}
 use Rattle.records.proofs.SameLaws.{bool-eq}
 use Rattle.records.proofs.TableLaws.{Ranges, good-ranges, record-good}
-use Rattle.sheets.specs.Numbered.{legIn, bothRecords, FieldsGood}
-use Rattle.sheets.specs.Links.{sortsOf, digitsOf, Rising, Packed, Worded, AllWorded}
+use Rattle.sheets.specs.Steps.Pooled.{pooledLeg, pooledRecords, FieldsGood}
+use Rattle.sheets.specs.Steps.Links.{sortsOf, digitsOf, Rising, Packed, Worded, AllWorded}
 use Rattle.sheets.specs.declared.links.Digits.{Digits}
 
 pub same-digits : (x y : Leg) → sameLineSide x y ≡ true → digitsOf x ≡ digitsOf y
@@ -37,7 +37,7 @@ low-sort a b c d p q e = (omega (arith, p, q), omega (arith, p, q))
 
 module _ (x y : Leg) (px : Packed x) (py : Packed y) where
   -- field by field from the lowest part of each word up
-  words-line : digitsOf x .low ≡ digitsOf y .low → digitsOf x .high ≡ digitsOf y .high → lineSideOf x ≡ lineSideOf y
+  words-line : digitsOf x .low ≡ digitsOf y .low → digitsOf x .high ≡ digitsOf y .high → legLineSide x ≡ legLineSide y
   unfolding digitsOf
   words-line low high =
       let strike : x .strike ≡ y .strike = omega (arith, low, px .strike, py .strike) in
@@ -82,8 +82,8 @@ ranges-packed top l r =
       strike = omega (arith, r .strike .1);
     }
 
-pub leg-packed : (h p : List ℕ) → FieldsGood h p → (k : ℕ) → k < bothRecords h p → Packed (legIn h p k)
-unfolding legIn
+pub leg-packed : (h p : List ℕ) → FieldsGood h p → (k : ℕ) → k < pooledRecords h p → Packed (pooledLeg h p k)
+unfolding pooledLeg
 leg-packed h p good k l =
     elim (decLt k (length h / 32)) [
       | yes q ↦ rw (lt-ltb k (length h / 32) q) (ranges-packed 0 _ (good-ranges 0 (chunkAt 32 h k) (record-good Holdings h k (good .0) q)))

@@ -44,12 +44,12 @@ unfoldable pub marksIn : List ℕ → ℕ
 marksIn p = sumOf markOn (legsOf p)
 
 -- 'the pass gives 1 and 4 and then changes nothing': the refusal, or how many marks were set
-abbrev pub markAnswer : Fault → ℕ → Marked
-markAnswer Nothing n = Marks n
-markAnswer (Is r) n = Refused r
+abbrev pub passAnswer : Fault → ℕ → Marked
+passAnswer Nothing n = Marks n
+passAnswer (Is r) n = Refused r
 
-unfoldable pub markOf : List ℕ → Marked
-markOf p = markAnswer (firstOf (tableChecks Placement p)) (marksIn p)
+unfoldable pub passCall : List ℕ → Marked
+passCall p = passAnswer (firstOf (tableChecks Placement p)) (marksIn p)
 
 -- what the table holds then
 unfoldable pub markLeft : Marked → List ℕ → List ℕ

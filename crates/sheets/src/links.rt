@@ -1,13 +1,14 @@
 // The first record of each line and side, found from link to link. A link is to a record, counted from 1,
 // or to none, 0; there is one for each bucket and eight for each record.
 ghost use mathlib.Core.Path.{_≡_};
-ghost use Prim.Native.Nat.{_+_, _*_, _/_, _≤_, _<_};
+ghost use Prim.Native.Nat.{_+_, _≤_, _<_};
 ghost use lib.ListN.{length};
-ghost use Rattle.sheets.specs.Links.{bucketOf, sortsOf, digitsOf, restOf, linkBelow, Rising, EndsFor};
-use crate::both::FEW_BOTH;
-use crate::both::MOST_BOTH;
-use crate::both::SOME_BOTH;
-use crate::both::wide;
+ghost use Rattle.sheets.specs.Steps.Pooled.{mostPooled};
+ghost use Rattle.sheets.specs.Steps.Links.{buckets, linksOf, bucketOf, sortsOf, digitsOf, restOf, linkBelow, Rising, WordRooms, EndsFor};
+use crate::pooled::FEW_POOLED;
+use crate::pooled::MOST_POOLED;
+use crate::pooled::SOME_POOLED;
+use crate::pooled::wide;
 use records::Leg;
 
 const BUCKETS: usize = 509;
@@ -15,14 +16,14 @@ const BUCKETS: usize = 509;
 const WAYS: usize = 8;
 
 // The links of as many records as there can be, of some, and of few.
-pub(crate) const MOST_LINKS: usize = BUCKETS + WAYS * MOST_BOTH;
+pub(crate) const MOST_LINKS: usize = BUCKETS + WAYS * MOST_POOLED;
 
-pub(crate) const SOME_LINKS: usize = BUCKETS + WAYS * SOME_BOTH;
+pub(crate) const SOME_LINKS: usize = BUCKETS + WAYS * SOME_POOLED;
 
-pub(crate) const FEW_LINKS: usize = BUCKETS + WAYS * FEW_BOTH;
+pub(crate) const FEW_LINKS: usize = BUCKETS + WAYS * FEW_POOLED;
 
 fn bucket_of(leg: Leg) -> usize
-    ensures { λ r. ⌜ (r ≡ bucketOf leg) × (r < 509) ⌝ }
+    ensures { λ r. ⌜ (r ≡ bucketOf leg) × (r < buckets) ⌝ }
 {
     let terms = leg.strike as usize
         + 3 * (leg.expiry as usize)
@@ -79,8 +80,8 @@ fn rest_of(digits: Digits) -> Digits
 
 // The link of record j for the first digit.
 fn link_below(j: usize, digits: Digits) -> usize
-    requires { ⌜ j < 512 ⌝ }
-    ensures { λ r. ⌜ (r ≡ linkBelow j digits) × (509 + 8 * j ≤ r) × (r < 517 + 8 * j) ⌝ }
+    requires { ⌜ j < mostPooled ⌝ }
+    ensures { λ r. ⌜ (r ≡ linkBelow j digits) × (linksOf j ≤ r) × (r < linksOf (j + 1)) ⌝ }
 {
     BUCKETS + WAYS * j + (digits.low % 8) as usize
 }
@@ -88,7 +89,7 @@ fn link_below(j: usize, digits: Digits) -> usize
 // The link to the first record of the leg's line and side, or the free one where such a record belongs. A record that is
 // linked is compared by its two words, which stand at its index.
 pub(crate) fn link_of(leg: Leg, lows: &[u64], highs: &[u64], links: &[u16]) -> usize
-    requires { ⌜ (length (now lows) ≤ 512) × (length (now highs) ≡ length (now lows)) × (509 + 8 * length (now lows) ≤ length (now links)) ⌝ }
+    requires { ⌜ WordRooms (now lows) (now highs) (now links) ⌝ }
     requires { ⌜ Rising (length (now lows)) (now links) ⌝ }
     ensures { λ r. ⌜ EndsFor (now (lows .entry)) (now (highs .entry)) (now (links .entry)) leg r ⌝ }
 {

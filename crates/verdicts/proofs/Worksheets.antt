@@ -20,9 +20,9 @@ use Rattle.spreads.specs.Strikes.{strikesOf, netsOf}
 use Rattle.spreads.specs.declared.answers.Listed.{Listed}
 use Rattle.spreads.specs.declared.answers.Listed.the-variants.{Entries, Refused}
 use Rattle.spreads.proofs.Laws.{list-in, group-few, strikes-count}
-use Rattle.verdicts.specs.Steps.{Answered}
+use Rattle.verdicts.specs.Steps.Groups.{GroupPasses}
 
-module _ (xs : List ℕ) (g : ℕ) (a : Answered xs g) where
+module _ (xs : List ℕ) (g : ℕ) (a : GroupPasses xs g) where
   answered-checked : firstOf (tableChecks Placement xs) ≡ Nothing
   unfolding groupChecks
   answered-checked =

@@ -7,9 +7,9 @@ use lib.Dec.{eqb}
 use lib.ListN.{length, getD}
 use borrow.Author.Needs.{needs}
 use Rattle.records.specs.declared.legs.Leg.{Leg}
-use Rattle.sheets.specs.Numbered.{alike}
-use Rattle.sheets.specs.Links.{bucketOf, digitsOf, Ends, Packed, AllWorded}
-use Rattle.sheets.specs.Links as links-of
+use Rattle.sheets.specs.Steps.Pooled.{alike}
+use Rattle.sheets.specs.Steps.Links.{bucketOf, digitsOf, Ends, Packed, AllWorded}
+use Rattle.sheets.specs.Steps.Links as links-of
 use Rattle.sheets.proofs.WordLaws.{words-same}
 use Rattle.sheets.proofs.links.link_of.Statement.{statement}
 use Rattle.sheets.proofs.links.link_of.Tie as tie

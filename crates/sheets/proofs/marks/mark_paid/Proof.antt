@@ -5,7 +5,7 @@ use Rattle.records.specs.Order.{firstOf}
 use Rattle.records.specs.Tables.{tableChecks}
 use Rattle.records.specs.declared.refusals.Fault.the-variants.{Nothing}
 use Rattle.records.specs.declared.tables.Kind.the-variants.{Placement}
-use Rattle.sheets.specs.Marks.{markOf, markLeft}
+use Rattle.sheets.specs.Marks.{passCall, markLeft}
 use Rattle.sheets.specs.declared.marks.Marked.the-variants.{Marks}
 use Rattle.sheets.proofs.MarkLaws.{counted-clear, counted-refused, table-few}
 use Rattle.sheets.proofs.marks.mark_paid.Statement.{statement}
@@ -18,13 +18,13 @@ mark-records-requires : tie.Need-mark-records-requires
 mark-records-requires c κs = table-few _ (clear (c .before))
 
 returns : tie.Need-returns
-unfolding markOf markLeft
+unfolding passCall markLeft
 returns c =
     let k = c .before .before .before in
     (rw (counted-refused _ _ (sym (k .check-table .ensures) ∙ c .before .refusal .given .1)), refl)
 
 returns-2 : tie.Need-returns-2
-unfolding markOf markLeft
+unfolding passCall markLeft
 returns-2 c =
     let m = c .before .before in
     (rw (clear (m .before .before)) (ap Marks (m .mark-records .ensures .0)), m .mark-records .ensures .1)

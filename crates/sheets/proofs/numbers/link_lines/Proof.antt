@@ -6,8 +6,8 @@ use native.Mathlib.Omega.{arith}
 use denote.Ref.{now}
 use lib.ListN.{length, getD, length-set}
 use borrow.Author.Needs.{needs}
-use Rattle.sheets.specs.Numbered.{legIn, bothRecords}
-use Rattle.sheets.specs.Links.{bucketOf, digitsOf, Ends, Packed, AllWorded}
+use Rattle.sheets.specs.Steps.Pooled.{pooledLeg, pooledRecords}
+use Rattle.sheets.specs.Steps.Links.{bucketOf, digitsOf, Ends, Packed, AllWorded}
 use Rattle.sheets.proofs.LinkLaws.{Linked, linked-none, link-small, linked-old, linked-new}
 use Rattle.sheets.proofs.WordLaws.{leg-packed, worded-new}
 use Rattle.sheets.proofs.numbers.link_lines.Statement.{statement}
@@ -16,9 +16,9 @@ use Rattle.sheets.proofs.numbers.link_lines.Tie as tie
 -- the first k records are numbered and can be found, and the words of those that are linked stand at their indices
 abbrev Inv-loop : tie.InvT-loop
 Inv-loop holdings placement numbers₀ links₀ lows₀ highs₀ n k₀ numbers links lows highs k =
-    (n ≡ bothRecords holdings placement) × (k ≤ n) × (length numbers ≡ length numbers₀) × (length links ≡ length links₀)
+    (n ≡ pooledRecords holdings placement) × (k ≤ n) × (length numbers ≡ length numbers₀) × (length links ≡ length links₀)
     × (length lows ≡ length lows₀) × (length highs ≡ length highs₀)
-    × Linked (legIn holdings placement) k numbers links × AllWorded (legIn holdings placement) lows highs links
+    × Linked (pooledLeg holdings placement) k numbers links × AllWorded (pooledLeg holdings placement) lows highs links
 
 abbrev μ-loop : tie.MeasureT-loop
 μ-loop holdings placement numbers₀ links₀ lows₀ highs₀ n k₀ numbers links lows highs k = n - k
@@ -29,19 +29,19 @@ loop-holds c =
     let none = s .pre .1 .1 .1 in
     (refl, omega arith, refl, refl, refl, refl, linked-none _ _ _ none, λ l j e. absurd (omega (arith, none l)))
 
-packed : (t : tie.After-leg-in Inv-loop μ-loop) → Packed (t .leg-in .result)
+packed : (t : tie.After-pooled-leg Inv-loop μ-loop) → Packed (t .pooled-leg .result)
 packed t =
     let l = t .before .before in
     let s = l .before .before .before .before .before .before .before in
-    rw (t .leg-in .ensures) (leg-packed _ _ (s .pre .0) (l .loop .k) (omega arith))
+    rw (t .pooled-leg .ensures) (leg-packed _ _ (s .pre .0) (l .loop .k) (omega arith))
 
 -- where the search for record k ends
 ends : (c : tie.After-link-of Inv-loop μ-loop)
     → (let t = c .before .before .before .before in
     let l = t .before .before in
     let a = l .before .before .before .before .before .before .before .args in
-    let leg = t .leg-in .result in
-    Ends (legIn (now (a .holdings)) (now (a .placement))) (l .loop .links) leg (digitsOf leg) (bucketOf leg) (c .link-of .result))
+    let leg = t .pooled-leg .result in
+    Ends (pooledLeg (now (a .holdings)) (now (a .placement))) (l .loop .links) leg (digitsOf leg) (bucketOf leg) (c .link-of .result))
 ends c =
     let t = c .before .before .before .before in
     let l = t .before .before in
@@ -54,7 +54,7 @@ small c =
     let t = c .before .before .before .before in
     let l = t .before .before in
     let s = l .before .before .before .before .before .before .before in
-    link-small _ _ _ _ (l .loop .inv .6) (omega arith) _ (t .leg-in .ensures) _ (ends c)
+    link-small _ _ _ _ (l .loop .inv .6) (omega arith) _ (t .pooled-leg .ensures) _ (ends c)
 
 link-of-requires : tie.Need-link-of-requires Inv-loop μ-loop
 link-of-requires c κs =
@@ -89,7 +89,7 @@ found c =
 after : (c : tie.Joined1 Inv-loop μ-loop)
     → (let l = c .before .before .before .before .before .before .before .before .before in
     let a = l .before .before .before .before .before .before .before .args in
-    let leg = legIn (now (a .holdings)) (now (a .placement)) in
+    let leg = pooledLeg (now (a .holdings)) (now (a .placement)) in
     (length (c .if1 .numbers) ≡ length (now (a .numbers))) × (length (c .if1 .links) ≡ length (now (a .links)))
     × (length (c .if1 .lows) ≡ length (now (a .lows))) × (length (c .if1 .highs) ≡ length (now (a .highs)))
     × Linked leg (l .loop .k + 1) (c .if1 .numbers) (c .if1 .links) × AllWorded leg (c .if1 .lows) (c .if1 .highs) (c .if1 .links))
@@ -103,7 +103,7 @@ after c =
     ⊎-elim
     (λ v.
     let free = room f .4 in
-    let e = t .leg-in .ensures in (
+    let e = t .pooled-leg .ensures in (
       ap length (v .2) ∙ simp length-set (inv .2),
       ap length (v .3) ∙ simp length-set (inv .3),
       ap length (v .4) ∙ simp length-set (inv .4),
@@ -111,7 +111,7 @@ after c =
       rw (v .2, v .3)
           (linked-new _ _ _ _ (inv .6) (omega arith) _ e _ (ends f) _ _ free (sym (w .wide .ensures) ∙ v .0 .taken) refl (add-one _)),
       rw (v .3, v .4, v .5, add-one)
-          (worded-new (legIn (now (s .args .holdings)) (now (s .args .placement))) (l .loop .lows) (l .loop .highs) (l .loop .links) (inv .7) (l .loop .k) (f .link-of .result) _ _ (inv .6 .rising) free (room f .2) (room f .3) (rw (sym e) (packed t))
+          (worded-new (pooledLeg (now (s .args .holdings)) (now (s .args .placement))) (l .loop .lows) (l .loop .highs) (l .loop .links) (inv .7) (l .loop .k) (f .link-of .result) _ _ (inv .6 .rising) free (room f .2) (room f .3) (rw (sym e) (packed t))
           (rw (v .1 .ensures, e) refl) (rw (v .1 .ensures, e) refl)),
     ))
     (λ v. (
@@ -120,7 +120,7 @@ after c =
       ap length (v .4) ∙ inv .4,
       ap length (v .5) ∙ inv .5,
       rw (v .2, v .3)
-          (linked-old _ _ _ _ (inv .6) (omega arith) _ (t .leg-in .ensures) _ (ends f) _ _ (found (record { before = w; if1 = v .0 }) .0) refl),
+          (linked-old _ _ _ _ (inv .6) (omega arith) _ (t .pooled-leg .ensures) _ (ends f) _ _ (found (record { before = w; if1 = v .0 }) .0) refl),
       rw (v .3, v .4, v .5) (inv .7),
     ))
     (c .if1 .came)
@@ -132,7 +132,7 @@ returns : tie.Need-returns Inv-loop μ-loop
 returns c =
     let l = c .before in
     let a = l .before .before .before .before .before .before .before .args in
-    let e : l .loop .k ≡ bothRecords (now (a .holdings)) (now (a .placement)) = omega arith in
+    let e : l .loop .k ≡ pooledRecords (now (a .holdings)) (now (a .placement)) = omega arith in
     (rw e at (l .loop .inv .6 .numbered), l .loop .inv .2)
 
 pub link-lines-spec : {M : Type 1} → statement M

@@ -1,4 +1,4 @@
-use Rattle.sheets.specs.Steps.{claimedChecks}
+use Rattle.sheets.specs.Steps.Stages.{claimedChecks}
 use Rattle.records.proofs.TableLaws.{length-claims}
 use Rattle.records.proofs.OrderLaws.{first-append}
 use mathlib.Core.Path.{sym, _∙_}

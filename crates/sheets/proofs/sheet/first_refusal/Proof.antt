@@ -3,7 +3,7 @@ use borrow.Author.Tests.{eq-eqb, ne-eqb}
 use borrow.Author.Needs.{needs}
 use Rattle.records.specs.Order.{firstOf}
 use Rattle.records.proofs.OrderLaws.{first-append}
-use Rattle.sheets.specs.Steps.{calledChecks}
+use Rattle.sheets.specs.Steps.Stages.{calledChecks}
 use Rattle.sheets.proofs.sheet.first_refusal.Statement.{statement}
 use Rattle.sheets.proofs.sheet.first_refusal.Tie as tie
 

@@ -1,7 +1,7 @@
 use mathlib.Core.Path.{refl}
 use borrow.Author.Needs.{needs}
-use Rattle.sheets.proofs.summed.add_contracts.Statement.{statement}
-use Rattle.sheets.proofs.summed.add_contracts.Tie as tie
+use Rattle.sheets.proofs.sums.add_contracts.Statement.{statement}
+use Rattle.sheets.proofs.sums.add_contracts.Tie as tie
 
 returns : tie.Need-returns
 returns c = (rw (c .plus .ensures .0) refl, c .plus .ensures .1)

@@ -1,18 +1,28 @@
--- The search for the first record of a line and side, from link to link: for the contracts of functions that are not public.
+-- The search for the first record of a line and side, from link to link.
 -- A link is to a record, counted from 1, or to none, 0. There is one for each bucket and eight for each record.
 use mathlib.Core.Path.{_≡_}
 use mathlib.Core.Bool.{true, false, cond}
 use mathlib.Core.List.{List}
 use Prim.Native.Nat.{ℕ, suc, _+_, _*_, _/_, _%_, _≤_, _<_}
 use lib.Dec.{ltb}
-use lib.ListN.{getD}
+use lib.ListN.{length, getD}
 use Rattle.records.specs.declared.legs.Leg.{Leg}
-use Rattle.sheets.specs.Numbered.{alike}
+use Rattle.sheets.specs.Steps.Pooled.{mostPooled, alike}
 use Rattle.sheets.specs.declared.links.Digits.{Digits}
 
--- which of 509 buckets a leg is in: legs of one line and side are in one
+abbrev pub buckets : ℕ
+buckets = 509
+
+abbrev pub ways : ℕ
+ways = 8
+
+-- how many links n records have, and where those of record n start
+abbrev pub linksOf : ℕ → ℕ
+linksOf n = buckets + ways * n
+
+-- which bucket a leg is in: legs of one line and side are in one
 unfoldable pub bucketOf : Leg → ℕ
-bucketOf l = (l .strike + 3 * l .expiry + 31 * l .underlying + 7 * l .side + 5 * l .right + 17 * l .size) % 509
+bucketOf l = (l .strike + 3 * l .expiry + 31 * l .underlying + 7 * l .side + 5 * l .right + 17 * l .size) % buckets
 
 -- the fields of few values as one number
 abbrev pub sortsOf : Leg → ℕ
@@ -28,11 +38,11 @@ digitsOf l =
 
 -- the digits after the first
 unfoldable pub restOf : Digits → Digits
-restOf d = cond (ltb (d .low) 8) (record { low = d .high; high = 0 }) (record { low = d .low / 8; high = d .high })
+restOf d = cond (ltb (d .low) ways) (record { low = d .high; high = 0 }) (record { low = d .low / ways; high = d .high })
 
 -- the link of record j for the first digit
 unfoldable pub linkBelow : ℕ → Digits → ℕ
-linkBelow j d = 509 + 8 * j + d .low % 8
+linkBelow j d = linksOf j + d .low % ways
 
 -- no link leads anywhere
 abbrev pub Unlinked : List ℕ → Type 0
@@ -40,7 +50,7 @@ Unlinked links = (l : ℕ) → getD links l 0 ≡ 0
 
 -- links lead to the first k records, and each to one whose own links come after it
 abbrev pub Rising : ℕ → List ℕ → Type 0
-Rising k links = (l j : ℕ) → getD links l 0 ≡ suc j → (j < k) × (l < 509 + 8 * j)
+Rising k links = (l j : ℕ) → getD links l 0 ≡ suc j → (j < k) × (l < linksOf j)
 
 -- the search for x, with these digits left, goes from link l to link `end`, which is free or leads to a record alike
 pub data Ends (leg : ℕ → Leg) (links : List ℕ) (x : Leg) : Digits → ℕ → ℕ → Type 0 where
@@ -66,6 +76,10 @@ pub record Worded (leg : ℕ → Leg) (lows highs : List ℕ) (j : ℕ) : Type 0
 
 abbrev pub AllWorded : (ℕ → Leg) → List ℕ → List ℕ → List ℕ → Type 0
 AllWorded leg lows highs links = (l j : ℕ) → getD links l 0 ≡ suc j → Worded leg lows highs j
+
+-- the lists of words and links are of one size
+abbrev pub WordRooms : List ℕ → List ℕ → List ℕ → Type 0
+WordRooms lows highs links = (length lows ≤ mostPooled) × (length highs ≡ length lows) × (linksOf (length lows) ≤ length links)
 
 -- where the search for x ends, among records of which the words are known
 abbrev pub EndsFor : List ℕ → List ℕ → List ℕ → Leg → ℕ → Type 0

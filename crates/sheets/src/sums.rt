@@ -7,17 +7,17 @@ ghost use lib.ListN.{length, getD, set};
 ghost use Prim.Native.Nat.{_+_, _<_, _≤_};
 use records::Contracts;
 
-pub(crate) struct Summed(u64);
+pub(crate) struct ContractSum(u64);
 
-impl Summed {
-    fn plus(self, more: Contracts) -> Summed
+impl ContractSum {
+    fn plus(self, more: Contracts) -> ContractSum
         requires { ⌜ self .0 + 4294967295 ≤ 18446744073709551615 ⌝ }
         ensures { λ r. ⌜ (r .0 ≡ self .0 + more .0) × (more .0 ≤ 4294967295) ⌝ }
     {
-        Summed(self.0 + more.number() as u64)
+        ContractSum(self.0 + more.number() as u64)
     }
 
-    fn same(self, other: Summed) -> bool
+    fn same(self, other: ContractSum) -> bool
         ensures { λ r. ⌜ r ≡ eqb (self .0) (other .0) ⌝ }
     {
         self.0 == other.0
@@ -29,7 +29,7 @@ pub(crate) fn add_contracts(sums: &mut [u64], c: usize, more: Contracts)
     requires { ⌜ (c < length (now sums)) × (getD (now sums) c 0 + 4294967295 ≤ 18446744073709551615) ⌝ }
     ensures { λ _. ⌜ (now (sums .exit) ≡ set (now (sums .entry)) c (getD (now (sums .entry)) c 0 + more .0)) × (more .0 ≤ 4294967295) ⌝ }
 {
-    let sum = Summed(sums[c]).plus(more);
+    let sum = ContractSum(sums[c]).plus(more);
     sums[c] = sum.0;
 }
 
@@ -38,5 +38,5 @@ pub(crate) fn same_sums(held: &[u64], placed: &[u64], c: usize) -> bool
     requires { ⌜ (c < length (now held)) × (c < length (now placed)) ⌝ }
     ensures { λ r. ⌜ r ≡ eqb (getD (now (held .entry)) c 0) (getD (now (placed .entry)) c 0) ⌝ }
 {
-    Summed(held[c]).same(Summed(placed[c]))
+    ContractSum(held[c]).same(ContractSum(placed[c]))
 }
