@@ -8,9 +8,9 @@ use Rattle.binaries.specs.Times.{yearEnd, columnOf}
 use Rattle.binaries.specs.Positions.{goodFields, offsets, matchedIn}
 use Rattle.binaries.specs.Margins.{perContract, binaryMargin, pairMargin}
 use Rattle.binaries.specs.Calls.{singleChecks, singleCall, pairChecks, pairCall}
-use Rattle.binaries.specs.Examples.{Holds, singles, pairs}
+use Rattle.binaries.specs.Examples.{Shows, singles, pairs}
 
-pub examples : All Holds singles × All Holds pairs
+pub examples : All Shows singles × All Shows pairs
 unfolding february daysIn realDate firstOf cellIn rowOf yearEnd columnOf goodFields offsets matchedIn perContract binaryMargin pairMargin
     singleChecks singleCall pairChecks pairCall singles pairs
 examples = (

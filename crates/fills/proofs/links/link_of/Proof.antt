@@ -12,6 +12,7 @@ use Rattle.fills.proofs.LinkLaws.{leads-none, leads-on}
 use Rattle.fills.proofs.links.link_of.Statement.{statement}
 use Rattle.fills.proofs.links.link_of.Tie as tie
 
+-- where the links lead from here on they lead from the bucket; and a row of the line and side to which they lead from the bucket has not been passed
 abbrev Inv-loop : tie.InvT-loop
 Inv-loop holdings fills k held links leg link₀ link =
     (link < 2304)

@@ -9,6 +9,7 @@ use Rattle.fills.proofs.WriteLaws.{Writing, writing-none, writing-room,
 use Rattle.fills.proofs.rows.put_rows.Statement.{statement}
 use Rattle.fills.proofs.rows.put_rows.Tie as tie
 
+-- the rows of the records before record k are written, one after the other
 abbrev Inv-loop : tie.InvT-loop
 Inv-loop holdings fills held result₀ count out₀ k₀ result out k =
     (count ≡ length holdings / 32 + length fills / 32) × (k ≤ count) × (length result ≡ length result₀)

@@ -14,6 +14,7 @@ use Rattle.salvage.proofs.SortLaws.{Sorting, sorting-none, sorting-kept
 use Rattle.salvage.proofs.sorter.sort_pieces.Statement.{statement}
 use Rattle.salvage.proofs.sorter.sort_pieces.Tie as tie
 
+-- of the pieces before piece i the kept ones stand one after the other, and the dropped ones are listed
 abbrev Inv-loop : tie.InvT-loop
 Inv-loop bytes lead kept₀ indices₀ numbers₀ n held₀ listed₀ i₀ kept indices numbers held listed i =
     (n ≡ pieceCount (length bytes)) × (i ≤ n) × Sorting bytes lead kept₀ indices₀ numbers₀ kept indices numbers held listed i
