@@ -1,17 +1,16 @@
 -- Legs that all have strikes of their own: no series among them is both long and short.
-use Prim.Native.Nat.{ℕ, suc, _≤_, _<_}
+use Prim.Native.Nat.{ℕ, _≤_, _<_}
 use mathlib.Core.Path.{_≡_, refl, sym, ap, _∙_}
-use mathlib.Core.Bool.{Bool, true, false, not}
+use mathlib.Core.Bool.{true, not}
 use mathlib.Core.List.{List, [], _∷_, List·Memᴰ, List·Memᴰ·head, List·Memᴰ·tail}
 use native.Mathlib.Omega.{arith}
 use lib.ListN.{length}
-use Rattle.records.specs.Lists.{All, allOf}
+use Rattle.records.specs.Lists.{All, allOf, Ascending}
 use Rattle.records.specs.declared.legs.Leg.{Leg}
 use Rattle.records.proofs.ListLaws.{all-allOf}
-use Rattle.spreads.specs.Demands.{Ascending}
 use Rattle.spreads.specs.Spreads.{doubled, noneDoubled}
 use Rattle.spreads.specs.Strikes.{insert, strikesOf}
-use Rattle.spreads.specs.Search.{firstPair, isClear}
+use Rattle.spreads.specs.Steps.Search.{firstPair, isClear}
 use Rattle.spreads.specs.declared.pairs.Pair.{Pair}
 use Rattle.spreads.specs.declared.pairs.Pair.the-variants.{At, Nothing}
 use Rattle.spreads.proofs.PairLaws.{clear-is, doubled-strike, refuted}

@@ -5,9 +5,8 @@ use mathlib.Core.List.{List}
 use lib.ListN.{take}
 use Rattle.spreads.specs.Spreads.{groupIn}
 use Rattle.spreads.specs.Strikes.{strikesOf}
-use Rattle.spreads.specs.Steps.{Checked}
-use Rattle.spreads.specs.Members.{legsAt, OneGroup}
-use Rattle.spreads.specs.Found.{IsFound}
+use Rattle.spreads.specs.Steps.Members.{Checked, legsAt, OneGroup}
+use Rattle.spreads.specs.Steps.Found.{IsFound}
 use Rattle.spreads.specs.declared.group.Found.{Found}
 use Rattle.spreads.specs.declared.prices.Worked.{Worked}
 use Rattle.spreads.proofs.MemberLaws.{members-are}

@@ -16,8 +16,8 @@ use Rattle.records.proofs.OrderLaws.{groups-none, groups-more, groups-stop}
 use Rattle.spreads.specs.Spreads.{groupOf, groupRule}
 use Rattle.spreads.specs.Boxes.{marginOf}
 use Rattle.spreads.specs.Calls.{marginsFrom}
-use Rattle.spreads.specs.Work.{valuesOf, workUpTo, refusedPrice}
-use Rattle.spreads.specs.Found.{askedAnswer, AllPriced}
+use Rattle.spreads.specs.Work.{valuesOf, workUpTo}
+use Rattle.spreads.specs.Steps.Found.{refusedPrice, askedAnswer, AllPriced}
 use Rattle.spreads.specs.declared.answers.Listed.the-variants.{Entries, Refused as Refused-listed}
 use Rattle.spreads.specs.declared.answers.Priced.{Priced}
 use Rattle.spreads.specs.declared.calls.Asked.{Asked}

@@ -3,7 +3,6 @@ use Prim.Native.Nat.{ℕ}
 use mathlib.Core.Path.{_≡_}
 use mathlib.Core.Bool.{Bool, _&&_}
 use mathlib.Core.List.{List, [], _∷_, _++_}
-use lib.Dec.{eqb}
 use Rattle.records.specs.Lists.{allOf, All}
 use Rattle.records.specs.Legs.{isEuropean, isCash}
 use Rattle.records.specs.Order.{Check, ask, firstOf}
@@ -37,9 +36,3 @@ cashRule g placement = groupRule g placement ++ ask (isFit (groupOf g placement)
 -- 'then the cash required is its margin by document 01, without the half of [2]'
 unfoldable pub cashCall : List ℕ → ℕ → Due
 cashCall xs g = dueAnswer (firstOf (tableChecks Placement xs ++ cashRule g (legsOf xs))) (worstLoss (groupIn xs g))
-
--- ---- what the steps of the call compute, for the contracts of functions that are not public
-
--- what is asked of each leg by itself
-unfoldable pub fitsCash : ℕ → Leg → Bool
-fitsCash expiry l = isEuropean l && isCash l && eqb (l .expiry) expiry

@@ -1,14 +1,13 @@
 // 'Cash accounts': document 02, request 7.
 ghost use mathlib.Core.Path.{_≡_};
-ghost use mathlib.Core.List.{[], _∷_};
 ghost use Rattle.records.specs.Lists.{allOf};
-ghost use Rattle.records.specs.Order.{ask, firstOf};
+ghost use Rattle.records.specs.Order.{firstOf};
 ghost use Rattle.records.specs.Tables.{legsOf};
 ghost use Rattle.spreads.specs.Calls.{dueAnswer};
-ghost use Rattle.spreads.specs.Cash.{fitsCash, isFit, cashRule, cashCall};
-ghost use Rattle.spreads.specs.Members.{legsAt, OneGroup};
+ghost use Rattle.spreads.specs.Steps.Fitting.{fitsCash, cashDue};
+ghost use Rattle.spreads.specs.Cash.{isFit, cashRule, cashCall};
+ghost use Rattle.spreads.specs.Steps.Members.{legsAt, OneGroup, Checked};
 ghost use Rattle.spreads.specs.Spreads.{groupIn};
-ghost use Rattle.spreads.specs.Steps.{Checked};
 ghost use Rattle.spreads.specs.Strikes.{strikesOf, worstLoss};
 use crate::answers::Due;
 use crate::group::find_alone;
@@ -61,7 +60,7 @@ fn fit_for_cash(placement: &[u8], members: &[u16]) -> bool
 fn members_cash(placement: &[u8], g: usize, members: &[u16], prices: &[u32]) -> Due
     requires { ⌜ OneGroup (now placement) (now members) ⌝ }
     requires { ⌜ now prices ≡ strikesOf (legsAt (now placement) (now members)) ⌝ }
-    ensures { λ r. ⌜ r ≡ dueAnswer (firstOf (ask (isFit (legsAt (now (placement .entry)) (now (members .entry)))) 21 2 g ∷ [])) (worstLoss (legsAt (now (placement .entry)) (now (members .entry)))) ⌝ }
+    ensures { λ r. ⌜ r ≡ cashDue g (legsAt (now (placement .entry)) (now (members .entry))) ⌝ }
 {
     if fit_for_cash(placement, members) {
         return Due::Mills(worst_at(placement, members, prices).mills as i64);

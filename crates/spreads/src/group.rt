@@ -1,10 +1,10 @@
 // One group of a checked placement: its legs, its strikes and its first refusal are found once, and handed on.
-ghost use mathlib.Core.Path.{_≡_};
 ghost use Prim.Native.Nat.{_≤_};
 ghost use lib.ListN.{length};
-ghost use Rattle.spreads.specs.Steps.{Checked};
-ghost use Rattle.spreads.specs.Links.{Linked};
-ghost use Rattle.spreads.specs.Found.{IsFound};
+ghost use Rattle.records.specs.Limits.{mostLegs};
+ghost use Rattle.spreads.specs.Steps.Members.{Checked};
+ghost use Rattle.spreads.specs.Steps.Links.{Linked};
+ghost use Rattle.spreads.specs.Steps.Found.{IsFound};
 use crate::links::LINKS;
 use crate::links::NOWHERE;
 use crate::links::find_members;
@@ -30,7 +30,7 @@ pub(crate) fn find_group(
 ) -> Found
     requires { ⌜ Checked (now placement) ⌝ }
     requires { ⌜ Linked (now placement) (now links) 0 ⌝ }
-    requires { ⌜ (256 ≤ length (now members)) × (256 ≤ length (now prices)) ⌝ }
+    requires { ⌜ (mostLegs ≤ length (now members)) × (mostLegs ≤ length (now prices)) ⌝ }
     ensures { λ r. ⌜ IsFound (now (placement .entry)) g r (now (members .exit)) (now (prices .exit)) ⌝ }
 {
     let legs = find_members(placement, links, g, members);
@@ -51,7 +51,7 @@ pub(crate) fn find_alone(
     prices: &mut [u32],
 ) -> Found
     requires { ⌜ Checked (now placement) ⌝ }
-    requires { ⌜ (256 ≤ length (now members)) × (256 ≤ length (now prices)) ⌝ }
+    requires { ⌜ (mostLegs ≤ length (now members)) × (mostLegs ≤ length (now prices)) ⌝ }
     ensures { λ r. ⌜ IsFound (now (placement .entry)) g r (now (members .exit)) (now (prices .exit)) ⌝ }
 {
     let mut links = [NOWHERE; LINKS];

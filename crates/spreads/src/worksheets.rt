@@ -1,13 +1,11 @@
 // The worksheet of a group: its strikes, and the net at each.
 ghost use mathlib.Core.Path.{_≡_};
-ghost use mathlib.Core.List.{[]};
 ghost use lib.ListN.{length};
-ghost use Rattle.records.specs.Tables.{legsOf};
-ghost use Rattle.spreads.specs.Strikes.{strikesOf, netsOf};
-ghost use Rattle.spreads.specs.Spreads.{groupIn, groupRule};
-ghost use Rattle.spreads.specs.Calls.{strikesListed, worksheetCall, listLeft};
-ghost use Rattle.spreads.specs.Steps.{Checked};
-ghost use Rattle.spreads.specs.Members.{legsAt, OneGroup};
+ghost use Rattle.spreads.specs.Strikes.{strikesOf};
+ghost use Rattle.spreads.specs.Spreads.{groupIn};
+ghost use Rattle.spreads.specs.Calls.{worksheetCall, strikesAfter, netsAfter};
+ghost use Rattle.spreads.specs.Steps.Found.{netsListed, checkedListed};
+ghost use Rattle.spreads.specs.Steps.Members.{Checked, legsAt, OneGroup};
 use crate::answers::Listed;
 use crate::group::find_alone;
 use crate::walk::fill;
@@ -27,9 +25,9 @@ fn list_nets(
 ) -> Listed
     requires { ⌜ OneGroup (now placement) (now members) ⌝ }
     requires { ⌜ now prices ≡ strikesOf (legsAt (now placement) (now members)) ⌝ }
-    ensures { λ r. ⌜ r ≡ strikesListed [] (legsAt (now (placement .entry)) (now (members .entry))) (length (now («strikes_out» .entry))) (length (now («nets_out» .entry))) ⌝ }
-    ensures { λ r. ⌜ now («strikes_out» .exit) ≡ listLeft r (strikesOf (legsAt (now (placement .entry)) (now (members .entry)))) (now («strikes_out» .entry)) ⌝ }
-    ensures { λ r. ⌜ now («nets_out» .exit) ≡ listLeft r (netsOf (legsAt (now (placement .entry)) (now (members .entry)))) (now («nets_out» .entry)) ⌝ }
+    ensures { λ r. ⌜ r ≡ netsListed (now (placement .entry)) (now (members .entry)) (length (now («strikes_out» .entry))) (length (now («nets_out» .entry))) ⌝ }
+    ensures { λ r. ⌜ now («strikes_out» .exit) ≡ strikesAfter r (legsAt (now (placement .entry)) (now (members .entry))) (now («strikes_out» .entry)) ⌝ }
+    ensures { λ r. ⌜ now («nets_out» .exit) ≡ netsAfter r (legsAt (now (placement .entry)) (now (members .entry))) (now («nets_out» .entry)) ⌝ }
 {
     let count = prices.len();
     if (count <= strikes_out.len()) & (count <= nets_out.len()) {
@@ -46,9 +44,9 @@ fn list_nets(
 // 6 to 13 of group g of a checked placement, then its worksheet.
 fn checked_nets(placement: &[u8], g: usize, strikes_out: &mut [u32], nets_out: &mut [i64]) -> Listed
     requires { ⌜ Checked (now placement) ⌝ }
-    ensures { λ r. ⌜ r ≡ strikesListed (groupRule g (legsOf (now (placement .entry)))) (groupIn (now (placement .entry)) g) (length (now («strikes_out» .entry))) (length (now («nets_out» .entry))) ⌝ }
-    ensures { λ r. ⌜ now («strikes_out» .exit) ≡ listLeft r (strikesOf (groupIn (now (placement .entry)) g)) (now («strikes_out» .entry)) ⌝ }
-    ensures { λ r. ⌜ now («nets_out» .exit) ≡ listLeft r (netsOf (groupIn (now (placement .entry)) g)) (now («nets_out» .entry)) ⌝ }
+    ensures { λ r. ⌜ r ≡ checkedListed (now (placement .entry)) g (length (now («strikes_out» .entry))) (length (now («nets_out» .entry))) ⌝ }
+    ensures { λ r. ⌜ now («strikes_out» .exit) ≡ strikesAfter r (groupIn (now (placement .entry)) g) (now («strikes_out» .entry)) ⌝ }
+    ensures { λ r. ⌜ now («nets_out» .exit) ≡ netsAfter r (groupIn (now (placement .entry)) g) (now («nets_out» .entry)) ⌝ }
 {
     let mut members = [0u16; MOST_LEGS];
     let mut prices = [0u32; MOST_LEGS];
@@ -76,8 +74,8 @@ pub fn worksheet(
     nets_out: &mut [i64],
 ) -> Listed
     ensures { λ r. ⌜ r ≡ worksheetCall (now (placement .entry)) g (length (now («strikes_out» .entry))) (length (now («nets_out» .entry))) ⌝ }
-    ensures { λ r. ⌜ now («strikes_out» .exit) ≡ listLeft r (strikesOf (groupIn (now (placement .entry)) g)) (now («strikes_out» .entry)) ⌝ }
-    ensures { λ r. ⌜ now («nets_out» .exit) ≡ listLeft r (netsOf (groupIn (now (placement .entry)) g)) (now («nets_out» .entry)) ⌝ }
+    ensures { λ r. ⌜ now («strikes_out» .exit) ≡ strikesAfter r (groupIn (now (placement .entry)) g) (now («strikes_out» .entry)) ⌝ }
+    ensures { λ r. ⌜ now («nets_out» .exit) ≡ netsAfter r (groupIn (now (placement .entry)) g) (now («nets_out» .entry)) ⌝ }
 {
     match records::check_table(Kind::Placement, placement) {
         Counted::Refused(refusal) => Listed::Refused(refusal),

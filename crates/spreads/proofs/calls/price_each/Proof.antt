@@ -19,6 +19,7 @@ use Rattle.spreads.proofs.PricingLaws.{Pricing, asked-for, asked-refuse
 use Rattle.spreads.proofs.calls.price_each.Statement.{statement}
 use Rattle.spreads.proofs.calls.price_each.Tie as tie
 
+-- none of the first k groups is refused, and their margins and their work are there; the rooms stay as large as they are
 abbrev Inv-loop : tie.InvT-loop
 Inv-loop placement links n margins₀ members₀ prices₀ values₀ k₀ margins members prices values k =
     (length margins ≡ length margins₀) × (length members ≡ 256) × (length prices ≡ 256) × Pricing n (legsOf placement) k values margins

@@ -4,7 +4,8 @@ use native.Mathlib.Omega.{arith}
 use lib.Seq.{length-take-le}
 use borrow.Author.Needs.{needs}
 use Rattle.records.specs.declared.legs.Leg.{Leg}
-use Rattle.spreads.proofs.CashLaws.{cashDue, cash-stop, cash-then}
+use Rattle.spreads.specs.Steps.Fitting.{cashDue}
+use Rattle.spreads.proofs.CashLaws.{cash-stop, cash-then}
 use Rattle.spreads.proofs.FoundLaws.{found-legs, found-prices, found-group}
 use Rattle.spreads.proofs.cash_accounts.checked_cash.Statement.{statement}
 use Rattle.spreads.proofs.cash_accounts.checked_cash.Tie as tie

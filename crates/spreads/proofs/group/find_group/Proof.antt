@@ -5,7 +5,7 @@ use lib.ListN.{length, take}
 use lib.Seq.{length-take-le}
 use borrow.Author.Needs.{needs}
 use Rattle.spreads.specs.Strikes.{strikesOf}
-use Rattle.spreads.specs.Members.{legsAt}
+use Rattle.spreads.specs.Steps.Members.{legsAt}
 use Rattle.spreads.proofs.MemberLaws.{members-are}
 use Rattle.spreads.proofs.group.find_group.Statement.{statement}
 use Rattle.spreads.proofs.group.find_group.Tie as tie

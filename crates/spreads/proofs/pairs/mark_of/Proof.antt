@@ -1,6 +1,6 @@
 use native.Mathlib.Omega.{arith}
 use borrow.Author.Needs.{needs}
-use Rattle.spreads.specs.Search.{seriesMark}
+use Rattle.spreads.specs.Steps.Search.{seriesMark}
 use Rattle.spreads.proofs.pairs.mark_of.Statement.{statement}
 use Rattle.spreads.proofs.pairs.mark_of.Tie as tie
 

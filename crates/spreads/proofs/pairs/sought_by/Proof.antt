@@ -1,6 +1,6 @@
 use mathlib.Core.Path.{ap, _∙_}
 use borrow.Author.Needs.{needs}
-use Rattle.spreads.specs.Search.{seriesMark}
+use Rattle.spreads.specs.Steps.Search.{seriesMark}
 use Rattle.spreads.proofs.pairs.sought_by.Statement.{statement}
 use Rattle.spreads.proofs.pairs.sought_by.Tie as tie
 

@@ -3,7 +3,7 @@ use native.Mathlib.Omega.{arith}
 use lib.ListN.{getD}
 use borrow.Author.Needs.{needs}
 use Rattle.spreads.specs.Boxes.{marginOf}
-use Rattle.spreads.specs.Members.{legsAt}
+use Rattle.spreads.specs.Steps.Members.{legsAt}
 use Rattle.spreads.proofs.BoxBounds.{Half, other-strikes, two-legs, two-strikes, two-box}
 use Rattle.spreads.proofs.required.margin_at.Statement.{statement}
 use Rattle.spreads.proofs.required.margin_at.Tie as tie

@@ -7,8 +7,9 @@ use lib.Dec.{leb, eqb}
 use lib.ListN.{length, take}
 use Rattle.records.specs.Within.{within}
 use Rattle.records.specs.declared.legs.Leg.{Leg}
-use Rattle.spreads.specs.Spreads.{oneOf, noneDoubled, noneOutlives, lowestFrom, firstBroken}
-use Rattle.spreads.specs.Gathered.{gathered}
+use Rattle.spreads.specs.Spreads.{oneOf, noneDoubled, noneOutlives, firstBroken}
+use Rattle.records.specs.Search.{lowestFrom}
+use Rattle.spreads.specs.Steps.Gathered.{gathered}
 use Rattle.spreads.specs.declared.facts.Facts.{Facts}
 
 -- ---- by a refusal's number

@@ -6,7 +6,7 @@ use lib.Dec.{eqb}
 use Rattle.records.specs.Legs.{isLong, isCall, isPut, isEuropean, noUnits}
 use Rattle.records.specs.declared.legs.Leg.{Leg}
 use Rattle.spreads.specs.Boxes.{isBoxLeg, unitsAt, boxAt}
-use Rattle.spreads.specs.Gathered.{withRight, isBalanced}
+use Rattle.spreads.specs.Steps.Gathered.{withRight, isBalanced}
 use Rattle.spreads.specs.declared.boxes.Kinds.{Kinds}
 use Rattle.spreads.specs.declared.boxes.Boxed.{Boxed as Answer}
 use Rattle.spreads.specs.declared.boxes.Boxed.the-variants.{Units, Not}
