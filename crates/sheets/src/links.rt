@@ -22,7 +22,7 @@ pub(crate) const SOME_LINKS: usize = BUCKETS + WAYS * SOME_POOLED;
 
 pub(crate) const FEW_LINKS: usize = BUCKETS + WAYS * FEW_POOLED;
 
-fn bucket_of(leg: Leg) -> usize
+pub(crate) fn bucket_of(leg: Leg) -> usize
     ensures { λ r. ⌜ (r ≡ bucketOf leg) × (r < buckets) ⌝ }
 {
     let terms = leg.strike as usize
@@ -86,15 +86,21 @@ fn link_below(j: usize, digits: Digits) -> usize
     BUCKETS + WAYS * j + (digits.low % 8) as usize
 }
 
-// The link to the first record of the leg's line and side, or the free one where such a record belongs. A record that is
-// linked is compared by its two words, which stand at its index.
-pub(crate) fn link_of(leg: Leg, lows: &[u64], highs: &[u64], links: &[u16]) -> usize
+// The link to the first record of a line and side, by its bucket and its digits, or the free one where such a record belongs.
+// A record that is linked is compared by its two words, which stand at its index.
+pub(crate) fn link_of(
+    bucket: usize,
+    whole: Digits,
+    lows: &[u64],
+    highs: &[u64],
+    links: &[u16],
+) -> usize
+    requires { ⌜ bucket < buckets ⌝ }
     requires { ⌜ WordRooms (now lows) (now highs) (now links) ⌝ }
     requires { ⌜ Rising (length (now lows)) (now links) ⌝ }
-    ensures { λ r. ⌜ EndsFor (now (lows .entry)) (now (highs .entry)) (now (links .entry)) leg r ⌝ }
+    ensures { λ r. ⌜ EndsFor (now (lows .entry)) (now (highs .entry)) (now (links .entry)) bucket whole r ⌝ }
 {
-    let whole = digits_of(leg);
-    let mut link = bucket_of(leg);
+    let mut link = bucket;
     let mut digits = whole;
     loop {
         let at = wide(links[link]);

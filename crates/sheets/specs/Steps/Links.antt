@@ -81,7 +81,8 @@ AllWorded leg lows highs links = (l j : ℕ) → getD links l 0 ≡ suc j → Wo
 abbrev pub WordRooms : List ℕ → List ℕ → List ℕ → Type 0
 WordRooms lows highs links = (length lows ≤ mostPooled) × (length highs ≡ length lows) × (linksOf (length lows) ≤ length links)
 
--- where the search for x ends, among records of which the words are known
-abbrev pub EndsFor : List ℕ → List ℕ → List ℕ → Leg → ℕ → Type 0
-EndsFor lows highs links x end =
-    (leg : ℕ → Leg) → AllWorded leg lows highs links → Packed x → Ends leg links x (digitsOf x) (bucketOf x) end
+-- where a search by a bucket and two words ends, among records of which the words are known
+abbrev pub EndsFor : List ℕ → List ℕ → List ℕ → ℕ → Digits → ℕ → Type 0
+EndsFor lows highs links bucket whole end =
+    (leg : ℕ → Leg) → AllWorded leg lows highs links
+    → (x : Leg) → Packed x → whole ≡ digitsOf x → bucket ≡ bucketOf x → Ends leg links x (digitsOf x) (bucketOf x) end

@@ -1,6 +1,6 @@
 -- What the stages of the check compute.
 use mathlib.Core.Path.{_≡_}
-use mathlib.Core.Bool.{Bool, true, false, cond}
+use mathlib.Core.Bool.{Bool, false, cond}
 use mathlib.Core.List.{List, [], _∷_, _++_}
 use Prim.Native.Nat.{ℕ, _-_}
 use lib.Dec.{eqb}
@@ -16,9 +16,13 @@ use Rattle.spreads.specs.Work.{workUpTo}
 use Rattle.sheets.specs.Sheets.{claimFor, askNumbered, askNamed, lastChecks}
 use Rattle.sheets.specs.declared.sheet.Judged.{Judged}
 
--- three tables that have passed 1, and holdings that have passed 4
-abbrev pub HoldingsGood : List ℕ → List ℕ → List ℕ → Type 0
-HoldingsGood h p c = (wholeTables (length h) (length p) (length c) ≡ true) × (firstOf (fieldChecks Holdings h) ≡ Nothing)
+-- what is asked first: 1 of three tables, and 4 of the holdings
+unfoldable pub openingChecks : List ℕ → List ℕ → List ℕ → List Check
+openingChecks h p c = ask (wholeTables (length h) (length p) (length c)) 1 0 0 ∷ fieldChecks Holdings h
+
+-- three tables that have passed that
+abbrev pub Opened : List ℕ → List ℕ → List ℕ → Type 0
+Opened h p c = firstOf (openingChecks h p c) ≡ Nothing
 
 -- a check that fails so
 abbrev pub failing : Refusal → Check

@@ -16,33 +16,29 @@ use Rattle.sheets.proofs.links.link_of.Tie as tie
 
 -- a search for x, whose words these are, that goes on from here ends where the whole search does
 abbrev Inv-loop : tie.InvT-loop
-Inv-loop lows highs links whole link₀ digits₀ link digits =
+Inv-loop bucket whole lows highs links link₀ digits₀ link digits =
     (link < 509 + 8 * length lows)
     × ((legs : ℕ → Leg) → AllWorded legs lows highs links → (x : Leg) → Packed x → whole ≡ digitsOf x
-    → (e : ℕ) → Ends legs links x digits link e → Ends legs links x whole link₀ e)
+    → (e : ℕ) → Ends legs links x digits link e → Ends legs links x whole bucket e)
 
 abbrev μ-loop : tie.MeasureT-loop
-μ-loop lows highs links whole link₀ digits₀ link digits = length links - link
+μ-loop bucket whole lows highs links link₀ digits₀ link digits = length links - link
 
 loop-holds : tie.Need-loop-holds Inv-loop μ-loop
-loop-holds c = (omega (arith, c .bucket-of .ensures .1), λ legs words x packed w e q. q)
+loop-holds c = (omega arith, λ legs words x packed w e q. q)
 
 ends : (l : tie.At-loop Inv-loop μ-loop)
-    → (let a = l .before .before .before .before .before .before .args in
-    (legs : ℕ → Leg) → AllWorded legs (now (a .lows)) (now (a .highs)) (now (a .links)) → Packed (a .leg)
-    → (e : ℕ) → Ends legs (now (a .links)) (a .leg) (l .loop .digits) (l .loop .link) e
-    → Ends legs (now (a .links)) (a .leg) (digitsOf (a .leg)) (bucketOf (a .leg)) e)
-ends l legs words packed e q =
-    let b = l .before in
-    let d = b .before in
-    let s = d .before .before .before .before in
-    rw (d .digits-of .ensures, b .bucket-of .ensures .0) at (l .loop .inv .1 legs words (s .args .leg) packed (d .digits-of .ensures) e q)
+    → (let a = l .before .before .before .before .args in
+    (legs : ℕ → Leg) → AllWorded legs (now (a .lows)) (now (a .highs)) (now (a .links))
+    → (x : Leg) → Packed x → a .whole ≡ digitsOf x → a .bucket ≡ bucketOf x
+    → (e : ℕ) → Ends legs (now (a .links)) x (l .loop .digits) (l .loop .link) e → Ends legs (now (a .links)) x (digitsOf x) (bucketOf x) e)
+ends l legs words x packed w b e q = rw (w, b) at (l .loop .inv .1 legs words x packed w e q)
 
 -- the record that the link leads to
 linked : (c : tie.Else1 Inv-loop μ-loop)
     → (let w = c .before in
     let l = w .before .before in
-    let s = l .before .before .before .before .before .before in
+    let s = l .before .before .before .before in
     getD (now (s .args .links)) (l .loop .link) 0 ≡ suc (w .wide .result - 1))
 linked c =
     let w = c .before in
@@ -54,22 +50,21 @@ linked c =
 rises : (c : tie.Else1 Inv-loop μ-loop)
     → (let w = c .before in
     let l = w .before .before in
-    let s = l .before .before .before .before .before .before in
+    let s = l .before .before .before .before in
     (w .wide .result - 1 < length (now (s .args .lows))) × (l .loop .link < 509 + 8 * (w .wide .result - 1)))
 rises c =
     let w = c .before in
     let l = w .before .before in
-    let s = l .before .before .before .before .before .before in
-    s .pre .1 (l .loop .link) (w .wide .result - 1) (linked c)
+    let s = l .before .before .before .before in
+    s .pre .1 .1 (l .loop .link) (w .wide .result - 1) (linked c)
 
 -- what the test of the words says of the record that the link leads to
 tested : (c : tie.Else1 Inv-loop μ-loop)
     → (let w = c .before in
-    let d = w .before .before .before .before in
-    let a = d .before .before .before .before .args in
+    let a = w .before .before .before .before .before .before .args in
     (b : Bool)
-    → eqb (getD (now (a .lows)) (w .wide .result - 1) 0) (d .digits-of .result .low) && eqb (getD (now (a .highs)) (w .wide .result - 1) 0) (d .digits-of .result .high) ≡ b
-    → (legs : ℕ → Leg) → AllWorded legs (now (a .lows)) (now (a .highs)) (now (a .links)) → (x : Leg) → Packed x → d .digits-of .result ≡ digitsOf x
+    → eqb (getD (now (a .lows)) (w .wide .result - 1) 0) (a .whole .low) && eqb (getD (now (a .highs)) (w .wide .result - 1) 0) (a .whole .high) ≡ b
+    → (legs : ℕ → Leg) → AllWorded legs (now (a .lows)) (now (a .highs)) (now (a .links)) → (x : Leg) → Packed x → a .whole ≡ digitsOf x
     → alike legs x (w .wide .result - 1) ≡ b)
 tested c b e legs words x packed q =
     let w = c .before in
@@ -79,19 +74,18 @@ tested c b e legs words x packed q =
     sym (words-same x (legs j) packed (v .packed) _ _ (v .low) (v .high)) ∙ rw (sym q) e
 
 returns : tie.Need-returns Inv-loop μ-loop
-returns c legs words packed =
+returns c legs words x packed q b =
     let w = c .before in
     let l = w .before .before in
-    ends l legs words packed (l .loop .link) (links-of.free refl (sym (w .wide .ensures) ∙ c .if1 .taken))
+    ends l legs words x packed q b (l .loop .link) (links-of.free refl (sym (w .wide .ensures) ∙ c .if1 .taken))
 
 returns-2 : tie.Need-returns-2 Inv-loop μ-loop
-returns-2 c legs words packed =
+returns-2 c legs words x packed q b =
     let e = c .before .before .before .before .before in
     let w = e .before in
     let l = w .before .before in
-    let d = l .before .before in
-    ends l legs words packed (l .loop .link)
-    (links-of.met (w .wide .result - 1) refl (linked e) (tested e _ (c .if2 .taken) legs words _ packed (d .digits-of .ensures)))
+    ends l legs words x packed q b (l .loop .link)
+    (links-of.met (w .wide .result - 1) refl (linked e) (tested e _ (c .if2 .taken) legs words x packed q))
 
 loop-again : tie.Need-loop-again Inv-loop μ-loop
 loop-again c =
@@ -112,8 +106,6 @@ link-of-spec =
     (tie.spec
     Inv-loop
     μ-loop
-    (λ c κs. search needs)
-    (λ c κs. search needs)
     loop-holds
     (λ c. omega arith)
     (λ c. omega arith)

@@ -37,38 +37,41 @@ packed t =
 
 -- where the search for record k ends
 ends : (c : tie.After-link-of Inv-loop μ-loop)
-    → (let t = c .before .before .before .before in
+    → (let t = c .before .before .before .before .before .before in
     let l = t .before .before in
     let a = l .before .before .before .before .before .before .before .args in
     let leg = t .pooled-leg .result in
     Ends (pooledLeg (now (a .holdings)) (now (a .placement))) (l .loop .links) leg (digitsOf leg) (bucketOf leg) (c .link-of .result))
 ends c =
-    let t = c .before .before .before .before in
+    let b = c .before .before .before .before in
+    let d = b .before in
+    let t = d .before in
     let l = t .before .before in
-    c .link-of .ensures _ (l .loop .inv .7) (packed t)
+    c .link-of .ensures _ (l .loop .inv .7) (t .pooled-leg .result) (packed t) (d .digits-of .ensures) (b .bucket-of .ensures .0)
 
 small : (c : tie.After-link-of Inv-loop μ-loop)
-    → (let l = c .before .before .before .before .before .before in
+    → (let l = c .before .before .before .before .before .before .before .before in
     c .link-of .result < 509 + 8 * l .loop .k)
 small c =
-    let t = c .before .before .before .before in
+    let t = c .before .before .before .before .before .before in
     let l = t .before .before in
     let s = l .before .before .before .before .before .before .before in
     link-small _ _ _ _ (l .loop .inv .6) (omega arith) _ (t .pooled-leg .ensures) _ (ends c)
 
 link-of-requires : tie.Need-link-of-requires Inv-loop μ-loop
 link-of-requires c κs =
-    let l = c .before .before .before .before .before in
+    let b = c .before .before .before in
+    let l = b .before .before .before .before in
     let s = l .before .before .before .before .before .before .before in
-    ((omega arith, omega arith, omega arith), λ i j e. (let r = l .loop .inv .6 .rising i j e in (omega (arith, r .0), r .1)))
+    (b .bucket-of .ensures .1, ((omega arith, omega arith, omega arith), λ i j e. (let r = l .loop .inv .6 .rising i j e in (omega (arith, r .0), r .1))))
 
 -- there is room for record k in every list
 room : (f : tie.After-link-of Inv-loop μ-loop)
-    → (let l = f .before .before .before .before .before .before in
+    → (let l = f .before .before .before .before .before .before .before .before in
     (l .loop .k < 512) × (l .loop .k < length (l .loop .numbers)) × (l .loop .k < length (l .loop .lows)) × (l .loop .k < length (l .loop .highs))
     × (f .link-of .result < length (l .loop .links)))
 room f =
-    let l = f .before .before .before .before .before .before in
+    let l = f .before .before .before .before .before .before .before .before in
     let s = l .before .before .before .before .before .before .before in
     (omega arith, omega arith, omega arith, omega arith, omega (arith, small f))
 
@@ -76,18 +79,18 @@ room f =
 found : (c : tie.Else1 Inv-loop μ-loop)
     → (let w = c .before in
     let f = w .before .before in
-    let l = f .before .before .before .before .before .before in
+    let l = f .before .before .before .before .before .before .before .before in
     (getD (l .loop .links) (f .link-of .result) 0 ≡ suc (w .wide .result - 1)) × (w .wide .result - 1 < l .loop .k))
 found c =
     let w = c .before in
-    let l = w .before .before .before .before .before .before .before .before in
+    let l = w .before .before .before .before .before .before .before .before .before .before in
     let h = c .if1 .left in
     let e : w .wide .result ≡ suc (w .wide .result - 1) = omega arith in
     let g = sym (w .wide .ensures) ∙ e in
     (g, l .loop .inv .6 .rising _ _ g .0)
 
 after : (c : tie.Joined1 Inv-loop μ-loop)
-    → (let l = c .before .before .before .before .before .before .before .before .before in
+    → (let l = c .before .before .before .before .before .before .before .before .before .before .before in
     let a = l .before .before .before .before .before .before .before .args in
     let leg = pooledLeg (now (a .holdings)) (now (a .placement)) in
     (length (c .if1 .numbers) ≡ length (now (a .numbers))) × (length (c .if1 .links) ≡ length (now (a .links)))
@@ -96,7 +99,8 @@ after : (c : tie.Joined1 Inv-loop μ-loop)
 after c =
     let w = c .before in
     let f = w .before .before in
-    let t = f .before .before .before .before in
+    let d = f .before .before .before .before .before in
+    let t = d .before in
     let l = t .before .before in
     let s = l .before .before .before .before .before .before .before in
     let inv = l .loop .inv in
@@ -104,15 +108,15 @@ after c =
     (λ v.
     let free = room f .4 in
     let e = t .pooled-leg .ensures in (
-      ap length (v .2) ∙ simp length-set (inv .2),
-      ap length (v .3) ∙ simp length-set (inv .3),
-      ap length (v .4) ∙ simp length-set (inv .4),
-      ap length (v .5) ∙ simp length-set (inv .5),
-      rw (v .2, v .3)
+      ap length (v .1) ∙ simp length-set (inv .2),
+      ap length (v .2) ∙ simp length-set (inv .3),
+      ap length (v .3) ∙ simp length-set (inv .4),
+      ap length (v .4) ∙ simp length-set (inv .5),
+      rw (v .1, v .2)
           (linked-new _ _ _ _ (inv .6) (omega arith) _ e _ (ends f) _ _ free (sym (w .wide .ensures) ∙ v .0 .taken) refl (add-one _)),
-      rw (v .3, v .4, v .5, add-one)
+      rw (v .2, v .3, v .4, add-one)
           (worded-new (pooledLeg (now (s .args .holdings)) (now (s .args .placement))) (l .loop .lows) (l .loop .highs) (l .loop .links) (inv .7) (l .loop .k) (f .link-of .result) _ _ (inv .6 .rising) free (room f .2) (room f .3) (rw (sym e) (packed t))
-          (rw (v .1 .ensures, e) refl) (rw (v .1 .ensures, e) refl)),
+          (rw (d .digits-of .ensures, e) refl) (rw (d .digits-of .ensures, e) refl)),
     ))
     (λ v. (
       ap length (v .2) ∙ simp length-set (inv .2),
@@ -144,22 +148,23 @@ link-lines-spec =
     (λ c. omega arith)
     loop-holds
     (λ c κs. search needs)
+    (λ c κs. search needs)
+    (λ c κs. search needs)
     link-of-requires
-    (λ c. omega (arith, small c))
-    (λ c. omega (arith, small (c .before)))
+    (λ c. omega (arith, small c, room c))
+    (λ c. omega (arith, room (c .before)))
     (λ c κs. search needs)
-    (λ c κs. search needs)
-    (λ c. omega (arith, room (c .before .before .before .before)))
-    (λ c. omega (arith, room (c .before .before .before .before)))
-    (λ c. omega (arith, room (c .before .before .before .before)))
-    (λ c. omega (arith, room (c .before .before .before .before)))
-    (λ c. omega (arith, room (c .before .before .before .before)))
-    (λ c. omega (arith, small (c .before .before .before .before), room (c .before .before .before .before)))
-    (λ c. omega (arith, room (c .before .before .before .before)))
-    (λ c. omega (arith, room (c .before .before .before .before)))
-    (λ c. omega (arith, room (c .before .before .before .before)))
-    (λ c. omega (arith, room (c .before .before .before .before)))
-    (λ c. omega (arith, room (c .before .before .before .before)))
+    (λ c. omega (arith, room (c .before .before .before)))
+    (λ c. omega (arith, room (c .before .before .before)))
+    (λ c. omega (arith, room (c .before .before .before)))
+    (λ c. omega (arith, room (c .before .before .before)))
+    (λ c. omega (arith, room (c .before .before .before)))
+    (λ c. omega (arith, small (c .before .before .before), room (c .before .before .before)))
+    (λ c. omega (arith, room (c .before .before .before)))
+    (λ c. omega (arith, room (c .before .before .before)))
+    (λ c. omega (arith, room (c .before .before .before)))
+    (λ c. omega (arith, room (c .before .before .before)))
+    (λ c. omega (arith, room (c .before .before .before)))
     (λ c. omega arith)
     (λ c. omega (arith, found c .1, room (c .before .before .before)))
     (λ c. omega (arith, found (c .before) .1, room (c .before .before .before .before)))

@@ -1,4 +1,4 @@
-use Rattle.sheets.proofs.StageLaws.{something, tabled-facts, left-listed, work-listed, listed-room, called-refused, called-fields, claimed-fields, claimed-stop, claimed-through}
+use Rattle.sheets.proofs.StageLaws.{something, opened, tabled-facts, left-listed, work-listed, listed-room, called-refused, called-fields, claimed-fields, claimed-stop, claimed-through}
 use Rattle.records.proofs.TableLaws.{length-claims}
 use denote.Ref.{now}
 use mathlib.Core.Path.{refl, sym, _∙_}
@@ -21,7 +21,7 @@ last-fault-requires c κs =
     let e = f .before .enum-told .given .1 in
     let n = sym (f .claimed-fault .ensures) ∙ t .enum-told2 .given .1 in
     let b = tabled-facts (now (s .args .holdings)) (now (s .args .placement)) (now (s .args .claims)) (s .pre) in (
-      (s .pre .1, called-fields (now (s .args .holdings)) (now (s .args .placement)) (now (s .args .claims)) (s .pre) _ (sym (m .price-groups .ensures .0) ∙ e)),
+      (opened (now (s .args .holdings)) (now (s .args .placement)) (now (s .args .claims)) (s .pre) .1, called-fields (now (s .args .holdings)) (now (s .args .placement)) (now (s .args .claims)) (s .pre) _ (sym (m .price-groups .ensures .0) ∙ e)),
       ((b .holdings, b .placement), (claimed-fields (now (s .args .placement)) (now (s .args .claims)) n, listed-room _ _ _ _ (left-listed _ _ _ _ _ (m .price-groups .ensures .1 .0) e) refl (b .claims))),
     )
 
