@@ -11,7 +11,6 @@ ghost use Rattle.records.specs.Limits.{mostContracts};
 ghost use Rattle.records.specs.Legs.{legFields, legOf, legBytes, withContracts, withPaid, termsInRange, goodLeg};
 ghost use Rattle.records.specs.Within.{within};
 use crate::counts::Contracts;
-use crate::dates::FIRST_DATE;
 use crate::dates::real_date;
 use crate::fields::Four;
 use crate::fields::u8_in;
@@ -234,14 +233,19 @@ pub(crate) fn good_leg_beside(known: u32, top: u16, part: &[u8]) -> bool
     false
 }
 
-// The same of any part, by the first date of all.
+// The same of any part. It does not call the one above, which stands in the loop over a table only while nothing else
+// calls it: full sheets and files written take a tenth longer otherwise.
 pub(crate) fn good_leg(top: u16, part: &[u8]) -> bool
     ensures { λ r. ⌜ r ≡ goodLeg top (now (part .entry)) ⌝ }
 {
     if part.len() != RECORD_BYTES {
         return false;
     }
-    good_leg_beside(FIRST_DATE, top, part)
+    let leg = leg_fields(part);
+    if terms_in_range(top, leg) & rest_in_range(leg) & zero_filler(part) {
+        return real_date(leg.expiry);
+    }
+    false
 }
 
 pub(crate) fn expiry_in(part: &[u8]) -> u32
