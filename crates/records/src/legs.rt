@@ -11,7 +11,6 @@ ghost use Rattle.records.specs.Limits.{mostContracts};
 ghost use Rattle.records.specs.Legs.{legFields, legOf, legBytes, withContracts, withPaid, termsInRange, goodLeg};
 ghost use Rattle.records.specs.Within.{within};
 use crate::counts::Contracts;
-use crate::dates::FIRST_DATE;
 use crate::dates::real_date;
 use crate::fields::Four;
 use crate::fields::u8_in;
@@ -217,8 +216,23 @@ fn zero_filler(part: &[u8]) -> bool
     u64_in(part, 24) == u16_in(part, 24) as u64
 }
 
-// Whether a part of 32 bytes is a leg record with each field in its range and a group of at most `top`. The date takes
-// the longest: it is looked at only where all else is right, and not worked out again where it is one known to be real.
+// Whether the part is a leg record with each field in its range and a group of at most `top`. The date takes the
+// longest, and is looked at only where all else is right.
+pub(crate) fn good_leg(top: u16, part: &[u8]) -> bool
+    ensures { λ r. ⌜ r ≡ goodLeg top (now (part .entry)) ⌝ }
+{
+    if part.len() != RECORD_BYTES {
+        return false;
+    }
+    let leg = leg_fields(part);
+    if terms_in_range(top, leg) & rest_in_range(leg) & zero_filler(part) {
+        return real_date(leg.expiry);
+    }
+    false
+}
+
+// The same of a part of 32 bytes, by a date that is known to be real: it is not worked out again. A function of its own:
+// were it called by the one above, too, it would not be compiled into the loop over a table's records.
 pub(crate) fn good_leg_beside(known: u32, top: u16, part: &[u8]) -> bool
     requires { ⌜ realDate known ≡ true ⌝ }
     requires { ⌜ length (now part) ≡ 32 ⌝ }
@@ -232,16 +246,6 @@ pub(crate) fn good_leg_beside(known: u32, top: u16, part: &[u8]) -> bool
         return real_date(leg.expiry);
     }
     false
-}
-
-// The same of any part, by the first date of all.
-pub(crate) fn good_leg(top: u16, part: &[u8]) -> bool
-    ensures { λ r. ⌜ r ≡ goodLeg top (now (part .entry)) ⌝ }
-{
-    if part.len() != RECORD_BYTES {
-        return false;
-    }
-    good_leg_beside(FIRST_DATE, top, part)
 }
 
 pub(crate) fn expiry_in(part: &[u8]) -> u32
