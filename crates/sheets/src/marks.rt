@@ -6,8 +6,9 @@ ghost use lib.ListN.{length};
 ghost use Rattle.records.specs.Legs.{legOf};
 ghost use Rattle.records.specs.Order.{firstOf};
 ghost use Rattle.records.specs.Tables.{legsOf};
+ghost use Rattle.records.specs.Written.{leftAfter};
 ghost use Rattle.sheets.specs.Sheets.{unpaidLong, askPlaced};
-ghost use Rattle.sheets.specs.Marks.{markOn, markedRecord, markedPlacement, marksIn, passCall, markLeft};
+ghost use Rattle.sheets.specs.Marks.{markOn, markedRecord, markedPlacement, marksIn, passCall, hasMarked};
 use records::Counted;
 use records::Fault;
 use records::Kind;
@@ -90,7 +91,7 @@ fn mark_records(placement: &mut [u8]) -> usize
 // Sets the mark on every unplaced long of the placement, in place. On a refusal nothing is written.
 pub fn mark_paid(placement: &mut [u8]) -> Marked
     ensures { λ r. ⌜ r ≡ passCall (now (placement .entry)) ⌝ }
-    ensures { λ r. ⌜ now (placement .exit) ≡ markLeft r (now (placement .entry)) ⌝ }
+    ensures { λ r. ⌜ now (placement .exit) ≡ leftAfter (hasMarked r) (markedPlacement (now (placement .entry))) (now (placement .entry)) ⌝ }
 {
     match records::check_table(Kind::Placement, placement) {
         Counted::Refused(refusal) => Marked::Refused(refusal),

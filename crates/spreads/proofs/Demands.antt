@@ -22,7 +22,7 @@ use Rattle.spreads.specs.Spreads.{groupOf, groupIn, groupRule, Spread}
 use Rattle.spreads.specs.Strikes.{strikesOf, netsOf}
 use Rattle.spreads.specs.Boxes.{marginOf}
 use Rattle.spreads.specs.Calls.{groupChecks, marginCall, listedAnswer, listedAfter, strikesListed, worksheetCall, hasListed, marginsFrom, groupsChecks, marginsCall}
-use Rattle.spreads.specs.Demands.{takenTogether, SpreadIff, RefusalsName, LegsBeside, PointsOnce, StrikesIff, WorstIsGreatest, MarginRight, MarginGiven, MarginsRight, MarginsGiven, WorksheetRight, WorksheetGiven, Leaves, WorksheetLeaves, MarginsLeave, BoxIff, BoxAnyOrder, BoxAnySplit, BoxNets, MarginsIff, FitIff, CashRight, CashGiven, JoiningNeverCosts, JoiningCosts, JoiningLoses, JoinedBoxCosts}
+use Rattle.spreads.specs.Demands.{takenTogether, SpreadIff, RefusalsName, LegsBeside, PointsOnce, StrikesExact, WorstIsGreatest, MarginRight, MarginGiven, MarginsRight, MarginsGiven, WorksheetRight, WorksheetGiven, Leaves, WorksheetLeaves, MarginsLeave, BoxIff, BoxAnyOrder, BoxAnySplit, BoxNets, MarginsByKind, FitIff, CashRight, CashGiven, JoiningNeverCosts, JoiningCosts, JoiningLoses, JoinedBoxCosts}
 use Rattle.spreads.specs.declared.answers.Listed.{Listed}
 use Rattle.spreads.specs.declared.answers.Listed.the-variants.{Entries, Refused}
 use Rattle.spreads.proofs.RuleLaws.{rule-to-spread, spread-to-rule, no-refusal-to-spread, spread-to-no-refusal}
@@ -55,8 +55,8 @@ points-once = one-place
 
 -- ---- the strikes, and the greatest loss
 
-pub strikes-iff : StrikesIff
-strikes-iff legs = (strikes-have legs, strikes-from legs, strikes-ascending legs)
+pub strikes-exact : StrikesExact
+strikes-exact legs = (strikes-have legs, strikes-from legs, strikes-ascending legs)
 
 pub worst-is-greatest : WorstIsGreatest
 worst-is-greatest = worst-greatest
@@ -75,8 +75,8 @@ box-any-split a b l m n = (box-split a b l m n, box-join a b l m n)
 pub boxes-net : BoxNets
 boxes-net = box-nets
 
-pub margins-iff : MarginsIff
-margins-iff legs = record { box = box-margin legs; other = λ h. other-margin legs (no-box-test legs h) }
+pub margins-by-kind : MarginsByKind
+margins-by-kind legs = record { box = box-margin legs; other = λ h. other-margin legs (no-box-test legs h) }
 
 -- ---- cash accounts
 

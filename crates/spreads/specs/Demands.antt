@@ -88,8 +88,8 @@ PointsOnce = (kept : List Leg → Bool) (g : ℕ) (placement : List Leg) (a b : 
 -- ---- the strikes, and the greatest loss
 
 -- 'the group's distinct strikes, ascending': the strike of every leg, and no other
-abbrev pub StrikesIff : Type 0
-StrikesIff = (legs : List Leg) → All (λ l. List·Memᴰ (l .strike) (strikesOf legs)) legs
+abbrev pub StrikesExact : Type 0
+StrikesExact = (legs : List Leg) → All (λ l. List·Memᴰ (l .strike) (strikesOf legs)) legs
     × All (λ k. (l : Leg) × List·Memᴰ l legs × (l .strike ≡ k)) (strikesOf legs)
     × Ascending (strikesOf legs)
 
@@ -124,12 +124,12 @@ BoxNets = (legs : List Leg) (b : LongBox legs) (d n : ℕ)
     → longAt d (at n) legs ≡ shortAt d (at n) legs + d * (b .units * (b .high - b .low))
 
 -- 'Its margin is half of units times the difference, a half mill rounded up'; that of any other group is its worst loss
-pub record MarginIff (legs : List Leg) : Type 0 where
+pub record MarginByKind (legs : List Leg) : Type 0 where
   pub box : (b : LongBox legs) → marginOf legs ≡ halfOf (b .units) (b .low) (b .high)
   pub other : ¬ LongBox legs → marginOf legs ≡ worstLoss legs
 
-abbrev pub MarginsIff : Type 0
-MarginsIff = (legs : List Leg) → MarginIff legs
+abbrev pub MarginsByKind : Type 0
+MarginsByKind = (legs : List Leg) → MarginByKind legs
 
 -- ---- 'Cash accounts'
 

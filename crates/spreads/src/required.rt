@@ -2,7 +2,7 @@
 ghost use mathlib.Core.Path.{_≡_};
 ghost use Rattle.spreads.specs.Strikes.{strikesOf};
 ghost use Rattle.spreads.specs.Boxes.{marginOf};
-ghost use Rattle.spreads.specs.Steps.Found.{WorkedOut};
+ghost use Rattle.spreads.specs.Steps.Found.{PricedAt};
 ghost use Rattle.spreads.specs.Steps.Members.{legsAt, OneGroup};
 use crate::boxes::Boxed;
 use crate::boxes::box_at;
@@ -13,7 +13,7 @@ use crate::walk::worst_at;
 pub(crate) fn margin_at(placement: &[u8], members: &[u16], prices: &[u32]) -> Worked
     requires { ⌜ OneGroup (now placement) (now members) ⌝ }
     requires { ⌜ now prices ≡ strikesOf (legsAt (now placement) (now members)) ⌝ }
-    ensures { λ r. ⌜ WorkedOut r marginOf (legsAt (now (placement .entry)) (now (members .entry))) ⌝ }
+    ensures { λ r. ⌜ PricedAt r marginOf (legsAt (now (placement .entry)) (now (members .entry))) ⌝ }
 {
     let walked = worst_at(placement, members, prices);
     if prices.len() != 2 {

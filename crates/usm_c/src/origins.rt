@@ -2,7 +2,7 @@
 ghost use mathlib.Core.Path.{_≡_};
 ghost use lib.ListN.{length};
 ghost use Rattle.usm_c.specs.Answers.{originWords};
-ghost use Rattle.usm_c.specs.Outcomes.{originAs, tablesOf, writeAs, writtenAs};
+ghost use Rattle.usm_c.specs.Outcomes.{lentTables, writeAs, writtenAs};
 use blocks::Form;
 use blocks::Origin;
 use blocks::Reading;
@@ -31,8 +31,8 @@ pub(crate) fn write_as(
     account: u64,
     out: &mut [u8],
 ) -> Writing
-    ensures { λ r. ⌜ r ≡ writeAs form account (tablesOf (holdings .entry) (placement .entry) (claims .entry)) (length (now (out .entry))) ⌝ }
-    ensures { λ r. ⌜ now (out .exit) ≡ writtenAs r form account (tablesOf (holdings .entry) (placement .entry) (claims .entry)) (now (out .entry)) ⌝ }
+    ensures { λ r. ⌜ r ≡ writeAs form account (lentTables (holdings .entry) (placement .entry) (claims .entry)) (length (now (out .entry))) ⌝ }
+    ensures { λ r. ⌜ now (out .exit) ≡ writtenAs r form account (lentTables (holdings .entry) (placement .entry) (claims .entry)) (now (out .entry)) ⌝ }
 {
     match form {
         1 => {

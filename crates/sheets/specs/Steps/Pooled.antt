@@ -5,6 +5,7 @@ use mathlib.Core.List.{List}
 use Prim.Native.Nat.{ℕ, _+_, _-_, _*_, _/_, _≤_, _<_}
 use lib.Dec.{eqb, ltb}
 use lib.ListN.{length, getD}
+use Rattle.records.specs.Limits.{recordBytes}
 use Rattle.records.specs.Chunks.{chunkAt}
 use Rattle.records.specs.Legs.{legOf}
 use Rattle.records.specs.Lines.{sameLineSide, contractsOf}
@@ -18,7 +19,7 @@ use Rattle.records.specs.declared.tables.Kind.the-variants.{Holdings, Placement
 
 -- record k of the two tables taken as one, holdings first
 unfoldable pub pooledLeg : List ℕ → List ℕ → ℕ → Leg
-pooledLeg h p k = cond (ltb k (length h / 32)) (legOf (chunkAt 32 h k)) (legOf (chunkAt 32 p (k - length h / 32)))
+pooledLeg h p k = cond (ltb k (length h / recordBytes)) (legOf (chunkAt recordBytes h k)) (legOf (chunkAt recordBytes p (k - length h / recordBytes)))
 
 -- record j is of x's line and side
 abbrev pub alike : (ℕ → Leg) → Leg → ℕ → Bool
@@ -35,14 +36,14 @@ pub record LineNumbered (leg : ℕ → Leg) (n : ℕ) (numbers : List ℕ) : Typ
 
 -- how many records two tables have, and at most
 abbrev pub pooledRecords : List ℕ → List ℕ → ℕ
-pooledRecords h p = length h / 32 + length p / 32
+pooledRecords h p = length h / recordBytes + length p / recordBytes
 
 abbrev pub mostPooled : ℕ
 mostPooled = mostLegs + mostLegs
 
 -- the bytes of the longest table of legs
 abbrev pub mostLegBytes : ℕ
-mostLegBytes = 32 * mostLegs
+mostLegBytes = recordBytes * mostLegs
 
 -- a list has an entry for each record of two tables
 module _ {A : Type 0} where
@@ -51,7 +52,7 @@ module _ {A : Type 0} where
 
 -- a table's records from index `first` on have numbers
 abbrev pub RoomFrom : ℕ → List ℕ → List ℕ → Type 0
-RoomFrom first table numbers = (first + length table / 32 ≤ mostPooled) × (first + length table / 32 ≤ length numbers)
+RoomFrom first table numbers = (first + length table / recordBytes ≤ mostPooled) × (first + length table / recordBytes ≤ length numbers)
 
 -- all records of two tables are so numbered
 abbrev pub AllNumbered : List ℕ → List ℕ → List ℕ → Type 0
@@ -63,19 +64,19 @@ FieldsGood h p = (firstOf (fieldChecks Holdings h) ≡ Nothing) × (firstOf (fie
 
 -- the records of a table are those from `first` on
 abbrev pub StandsAt : (ℕ → Leg) → ℕ → List ℕ → Type 0
-StandsAt leg first table = (i : ℕ) → i < length table / 32 → leg (first + i) ≡ legOf (chunkAt 32 table i)
+StandsAt leg first table = (i : ℕ) → i < length table / recordBytes → leg (first + i) ≡ legOf (chunkAt recordBytes table i)
 
 -- at each record's number stand the contracts of its line and side in the table
 abbrev pub Tallied : List ℕ → ℕ → List ℕ → List ℕ → Type 0
 Tallied numbers first table sums =
-    (leg : ℕ → Leg) (n : ℕ) → LineNumbered leg n numbers → first + length table / 32 ≤ n → StandsAt leg first table
+    (leg : ℕ → Leg) (n : ℕ) → LineNumbered leg n numbers → first + length table / recordBytes ≤ n → StandsAt leg first table
     → (k : ℕ) → k < n → getD sums (getD numbers k 0) 0 ≡ contractsOf (leg k) (legsOf table)
 
 -- a test of a table's records, answered by two lists of sums
 abbrev pub SumsAnswer : (Leg → Bool) → List ℕ → ℕ → List ℕ → List ℕ → List ℕ → Type 0
 SumsAnswer good table first numbers held placed =
-    (i : ℕ) → i < length table / 32
-    → good (legOf (chunkAt 32 table i)) ≡ eqb (getD held (getD numbers (first + i) 0) 0) (getD placed (getD numbers (first + i) 0) 0)
+    (i : ℕ) → i < length table / recordBytes
+    → good (legOf (chunkAt recordBytes table i)) ≡ eqb (getD held (getD numbers (first + i) 0) 0) (getD placed (getD numbers (first + i) 0) 0)
 
 -- so that the first record whose sums differ is the first that fails any test they answer
 abbrev pub FirstUneven : Kind → List ℕ → ℕ → List ℕ → List ℕ → List ℕ → Fault → Type 0

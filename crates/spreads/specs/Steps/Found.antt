@@ -43,8 +43,8 @@ checkedListed xs g roomStrikes roomNets = strikesListed (groupRule g (legsOf xs)
 -- ---- groups 1 to n, each judged and priced
 
 -- an amount of some legs, and the work that it took
-abbrev pub WorkedOut : Worked → (List Leg → ℕ) → List Leg → Type 0
-WorkedOut w amount legs = (w .mills ≡ amount legs) × (w .mills ≤ mostMills) × (w .values ≡ valuesOf legs)
+abbrev pub PricedAt : Worked → (List Leg → ℕ) → List Leg → Type 0
+PricedAt w amount legs = (w .mills ≡ amount legs) × (w .mills ≤ mostMills) × (w .values ≡ valuesOf legs)
 
 -- a group's margin and its work
 abbrev pub askedAnswer : Fault → List Leg → Asked

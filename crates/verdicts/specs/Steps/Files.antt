@@ -3,6 +3,7 @@ use mathlib.Core.Path.{_≡_}
 use mathlib.Core.List.{List}
 use Prim.Native.Nat.{ℕ, _*_, _≤_}
 use lib.ListN.{length, take}
+use Rattle.records.specs.Limits.{recordBytes}
 use Rattle.blocks.specs.File.{originIn}
 use Rattle.blocks.specs.Reader.{scanCall}
 use Rattle.blocks.specs.declared.answers.Counts.{Counts}
@@ -16,8 +17,8 @@ HasRecords file n = scanCall file ≡ Read n (originIn file)
 
 -- three tables have room for so many records
 abbrev pub HasRoom : Counts → List ℕ → List ℕ → List ℕ → Type 0
-HasRoom n h p c = (32 * n .holdings ≤ length h) × (32 * n .placement ≤ length p) × (32 * n .claims ≤ length c)
+HasRoom n h p c = (recordBytes * n .holdings ≤ length h) × (recordBytes * n .placement ≤ length p) × (recordBytes * n .claims ≤ length c)
 
 -- the verdict on so many records at the front of three tables
 abbrev pub verdictOn : Counts → List ℕ → List ℕ → List ℕ → Verdict
-verdictOn n h p c = verdictOf (take (32 * n .holdings) h) (take (32 * n .placement) p) (take (32 * n .claims) c)
+verdictOn n h p c = verdictOf (take (recordBytes * n .holdings) h) (take (recordBytes * n .placement) p) (take (recordBytes * n .claims) c)

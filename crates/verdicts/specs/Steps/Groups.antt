@@ -4,6 +4,7 @@ use mathlib.Core.List.{List, flatten}
 use Prim.Native.Nat.{ℕ, _/_}
 use lib.Dec.{eqb}
 use lib.ListN.{length}
+use Rattle.records.specs.Limits.{recordBytes}
 use Rattle.records.specs.Chunks.{recordsOf}
 use Rattle.records.specs.Legs.{legOf}
 use Rattle.records.specs.Lists.{keep}
@@ -30,7 +31,7 @@ worksheetLines placement g = strikeLines (strikesOf (groupIn placement g)) (nets
 
 -- the text of every group that has a claim
 abbrev pub groupsText : List ℕ → List ℕ → List ℕ
-groupsText placement claims = shownText (shownIn (length claims / 32) (legsOf placement))
+groupsText placement claims = shownText (shownIn (length claims / recordBytes) (legsOf placement))
 
 -- placement and claims of a sheet that keeps the rules
 abbrev pub ShownBy : List ℕ → List ℕ → Type 0
