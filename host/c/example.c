@@ -41,19 +41,16 @@ static void claim(uint8_t *record, unsigned group, uint64_t margin)
     put(record, USM_CLAIM_MARGIN, 8, margin);
 }
 
+/* Tells of a refusal, and is 0: what a step answers that it ends. */
 static int refused(const char *call, const uint64_t *answer)
 {
-    if (answer[0] == 0)
-        return 0;
     printf("%s: refusal %" PRIu64 ", table %" PRIu64 ", place %" PRIu64 "\n",
            call, answer[0], answer[1], answer[2]);
-    return 1;
+    return 0;
 }
 
 static int accepted(const char *call, const uint64_t *answer)
 {
-    if (refused(call, answer))
-        return 0;
     printf("%s: accepted, groups %" PRIu64 ", total %" PRIu64 " mills, work %" PRIu64 "\n", call, answer[1], answer[2],
            answer[3]);
     return 1;
@@ -82,9 +79,8 @@ static void place_iron_condor(struct sheet *sheet)
 static int print_records(uint64_t kind, const uint8_t *table, size_t table_len)
 {
     uint64_t answer[USM_ANSWER_NUMBERS];
-    usm_check_table(kind, table, table_len, answer);
-    if (refused("usm_check_table", answer))
-        return 0;
+    if (usm_check_table(kind, table, table_len, answer))
+        return refused("usm_check_table", answer);
     printf("table %" PRIu64 ": %" PRIu64 " records in range\n", kind, answer[1]);
     return 1;
 }
@@ -93,9 +89,8 @@ static int print_records(uint64_t kind, const uint8_t *table, size_t table_len)
 static int print_margin(const struct sheet *sheet, uint64_t g)
 {
     uint64_t answer[USM_ANSWER_NUMBERS];
-    usm_margin(sheet->placement, sizeof sheet->placement, g, answer);
-    if (refused("usm_margin", answer))
-        return 0;
+    if (usm_margin(sheet->placement, sizeof sheet->placement, g, answer))
+        return refused("usm_margin", answer);
     printf("group %" PRIu64 " by itself: margin %" PRId64 "\n", g, (int64_t)answer[1]);
     return 1;
 }
@@ -107,16 +102,15 @@ static int print_cash(void)
     uint64_t answer[USM_ANSWER_NUMBERS];
     leg(legs, 1, USM_LONG, USM_PUT, 50000);
     leg(legs + USM_RECORD_BYTES, 1, USM_SHORT, USM_PUT, 60000);
-    usm_cash(legs, sizeof legs, 1, answer);
-    if (!refused("usm_cash", answer))
+    if (!usm_cash(legs, sizeof legs, 1, answer))
         return 0;
+    refused("usm_cash", answer);
     for (size_t i = 0; i < 2; i++) {
         legs[i * USM_RECORD_BYTES + USM_LEG_STYLE] = USM_EUROPEAN;
         legs[i * USM_RECORD_BYTES + USM_LEG_SETTLEMENT] = USM_CASH;
     }
-    usm_cash(legs, sizeof legs, 1, answer);
-    if (refused("usm_cash", answer))
-        return 0;
+    if (usm_cash(legs, sizeof legs, 1, answer))
+        return refused("usm_cash", answer);
     printf("cash required %" PRId64 "\n", (int64_t)answer[1]);
     return 1;
 }
@@ -126,9 +120,8 @@ static int claim_margins(struct sheet *sheet)
 {
     int64_t margins[2];
     uint64_t answer[USM_ANSWER_NUMBERS];
-    usm_margins(sheet->placement, sizeof sheet->placement, 2, margins, 2, answer);
-    if (refused("usm_margins", answer))
-        return 0;
+    if (usm_margins(sheet->placement, sizeof sheet->placement, 2, margins, 2, answer))
+        return refused("usm_margins", answer);
     for (unsigned g = 1; g <= 2; g++) {
         printf("group %u margin %" PRId64 "\n", g, margins[g - 1]);
         claim(sheet->claims + (g - 1) * USM_RECORD_BYTES, g, (uint64_t)margins[g - 1]);
@@ -141,10 +134,9 @@ static int print_worksheet(const struct sheet *sheet, uint64_t g)
     uint32_t strikes[USM_MOST_LEGS];
     int64_t nets[USM_MOST_LEGS];
     uint64_t answer[USM_ANSWER_NUMBERS];
-    usm_worksheet(sheet->placement, sizeof sheet->placement, g,
-                  strikes, USM_MOST_LEGS, nets, USM_MOST_LEGS, answer);
-    if (refused("usm_worksheet", answer))
-        return 0;
+    if (usm_worksheet(sheet->placement, sizeof sheet->placement, g,
+                      strikes, USM_MOST_LEGS, nets, USM_MOST_LEGS, answer))
+        return refused("usm_worksheet", answer);
     for (uint64_t i = 0; i < answer[1]; i++)
         printf("strike %" PRIu32 " net %" PRId64 "\n", strikes[i], nets[i]);
     return 1;
@@ -154,8 +146,9 @@ static int print_worksheet(const struct sheet *sheet, uint64_t g)
 static int check(const struct sheet *sheet)
 {
     uint64_t answer[USM_ANSWER_NUMBERS];
-    usm_check_sheet(sheet->holdings, sizeof sheet->holdings, sheet->placement, sizeof sheet->placement,
-                    sheet->claims, sizeof sheet->claims, answer);
+    if (usm_check_sheet(sheet->holdings, sizeof sheet->holdings, sheet->placement, sizeof sheet->placement,
+                        sheet->claims, sizeof sheet->claims, answer))
+        return refused("usm_check_sheet", answer);
     return accepted("usm_check_sheet", answer);
 }
 
@@ -163,9 +156,9 @@ static int check(const struct sheet *sheet)
 static int check_file(const uint8_t *file, size_t file_len)
 {
     uint64_t answer[USM_ANSWER_NUMBERS];
-    usm_check_file(file, file_len, answer);
-    if (!accepted("usm_check_file", answer))
-        return 0;
+    if (usm_check_file(file, file_len, answer))
+        return refused("usm_check_file", answer);
+    accepted("usm_check_file", answer);
     uint8_t line[USM_LINE_BYTES];
     size_t line_len = usm_file_line(file, file_len, line);
     printf("file of %zu bytes: %.*s", file_len, (int)line_len, (const char *)line);
@@ -180,12 +173,10 @@ static int move_and_move_back(const uint8_t *file, size_t file_len)
 {
     uint8_t moved[USM_LONGEST_FILE], back[USM_LONGEST_FILE];
     uint64_t answer[USM_ANSWER_NUMBERS];
-    usm_move_to_new(file, file_len, 4711, moved, sizeof moved, answer);
-    if (refused("usm_move_to_new", answer))
-        return 0;
-    usm_move_to_old(moved, (size_t)answer[1], back, sizeof back, answer);
-    if (refused("usm_move_to_old", answer))
-        return 0;
+    if (usm_move_to_new(file, file_len, 4711, moved, sizeof moved, answer))
+        return refused("usm_move_to_new", answer);
+    if (usm_move_to_old(moved, (size_t)answer[1], back, sizeof back, answer))
+        return refused("usm_move_to_old", answer);
     int same = answer[1] == file_len && memcmp(file, back, file_len) == 0;
     printf("moved to the mark %.4s with account %u, and back: %s\n", (const char *)moved,
            (unsigned)(moved[USM_BLOCK_ACCOUNT] + 256 * moved[USM_BLOCK_ACCOUNT + 1]),
@@ -197,10 +188,9 @@ static int read_back(const struct sheet *sheet, const uint8_t *file, size_t file
 {
     struct sheet back;
     uint64_t answer[USM_ANSWER_NUMBERS], origin[USM_ORIGIN_NUMBERS];
-    usm_read_file(file, file_len, back.holdings, sizeof back.holdings, back.placement, sizeof back.placement,
-                  back.claims, sizeof back.claims, origin, answer);
-    if (refused("usm_read_file", answer))
-        return 0;
+    if (usm_read_file(file, file_len, back.holdings, sizeof back.holdings, back.placement, sizeof back.placement,
+                      back.claims, sizeof back.claims, origin, answer))
+        return refused("usm_read_file", answer);
     int same = memcmp(sheet, &back, sizeof back) == 0;
     printf("read back %" PRIu64 " + %" PRIu64 " + %" PRIu64 " records, %s; form %" PRIu64 ", account %" PRIu64 "\n",
            answer[1], answer[2], answer[3], same ? "the same" : "NOT the same",
@@ -213,10 +203,9 @@ static int write_and_read_back(const struct sheet *sheet)
 {
     uint8_t file[USM_LONGEST_FILE];
     uint64_t answer[USM_ANSWER_NUMBERS];
-    usm_write_file(sheet->holdings, sizeof sheet->holdings, sheet->placement, sizeof sheet->placement,
-                   sheet->claims, sizeof sheet->claims, USM_OLD_FORM, 0, file, sizeof file, answer);
-    if (refused("usm_write_file", answer))
-        return 0;
+    if (usm_write_file(sheet->holdings, sizeof sheet->holdings, sheet->placement, sizeof sheet->placement,
+                       sheet->claims, sizeof sheet->claims, USM_OLD_FORM, 0, file, sizeof file, answer))
+        return refused("usm_write_file", answer);
     size_t file_len = (size_t)answer[1];
     return check_file(file, file_len) && move_and_move_back(file, file_len) && read_back(sheet, file, file_len);
 }
@@ -233,10 +222,9 @@ static int play_a_day(const struct sheet *sheet)
     fills[USM_RECORD_BYTES + USM_FILL_ACTION] = USM_CLOSE;
     leg(fills + 2 * USM_RECORD_BYTES, 0, USM_LONG, USM_CALL, 80000);
     fills[2 * USM_RECORD_BYTES + USM_FILL_ACTION] = USM_OPEN;
-    usm_play_fills(sheet->holdings, sizeof sheet->holdings, fills, sizeof fills, result, sizeof result,
-                   indices, 3, numbers, 3, answer);
-    if (refused("usm_play_fills", answer))
-        return 0;
+    if (usm_play_fills(sheet->holdings, sizeof sheet->holdings, fills, sizeof fills, result, sizeof result,
+                       indices, 3, numbers, 3, answer))
+        return refused("usm_play_fills", answer);
     printf("after the day %" PRIu64 " records, %" PRIu64 " fills refused\n", answer[1], answer[2]);
     for (uint64_t i = 0; i < answer[2]; i++)
         printf("fill %" PRIu32 ": refusal %u\n", indices[i], (unsigned)numbers[i]);
@@ -250,14 +238,14 @@ static int mark_a_long(void)
     uint64_t answer[USM_ANSWER_NUMBERS];
     leg(held, 0, USM_LONG, USM_CALL, 80000);
     leg(placed, 0, USM_LONG, USM_CALL, 80000);
-    usm_check_sheet(held, sizeof held, placed, sizeof placed, NULL, 0, answer);
-    if (!refused("usm_check_sheet", answer))
+    if (!usm_check_sheet(held, sizeof held, placed, sizeof placed, NULL, 0, answer))
         return 0;
-    usm_mark_paid(placed, sizeof placed, answer);
-    if (refused("usm_mark_paid", answer))
-        return 0;
+    refused("usm_check_sheet", answer);
+    if (usm_mark_paid(placed, sizeof placed, answer))
+        return refused("usm_mark_paid", answer);
     printf("%" PRIu64 " long marked as paid, byte %d is %u\n", answer[1], (int)USM_LEG_PAID, placed[USM_LEG_PAID]);
-    usm_check_sheet(held, sizeof held, placed, sizeof placed, NULL, 0, answer);
+    if (usm_check_sheet(held, sizeof held, placed, sizeof placed, NULL, 0, answer))
+        return refused("usm_check_sheet", answer);
     return accepted("usm_check_sheet", answer);
 }
 
@@ -273,17 +261,19 @@ static int import_a_list(void)
     put(roots, USM_ROOT_UNIT_SIZE, 2, 100);
     put(roots, USM_ROOT_SETTLEMENT, 1, USM_PHYSICAL);
     put(roots, USM_ROOT_UNDERLYING, 4, 7);
-    usm_import(roots, sizeof roots, (const uint8_t *)list, list_len, holdings, sizeof holdings, answer);
-    if (refused("usm_import", answer))
-        return 0;
+    if (usm_import(roots, sizeof roots, (const uint8_t *)list, list_len, holdings, sizeof holdings, answer))
+        return refused("usm_import", answer);
     printf("a list of %" PRIu64 " holdings", answer[1]);
-    usm_export(roots, sizeof roots, holdings, sizeof holdings, back, sizeof back, answer);
-    if (refused("usm_export", answer) || answer[1] != list_len || memcmp(back, list, list_len) != 0)
+    if (usm_export(roots, sizeof roots, holdings, sizeof holdings, back, sizeof back, answer))
+        return refused("usm_export", answer);
+    if (answer[1] != list_len || memcmp(back, list, list_len) != 0)
         return 0;
     printf(", and the same list again\n");
     roots[0] = 'B';
-    usm_import(roots, sizeof roots, (const uint8_t *)list, list_len, holdings, sizeof holdings, answer);
-    return refused("usm_import", answer);
+    if (!usm_import(roots, sizeof roots, (const uint8_t *)list, list_len, holdings, sizeof holdings, answer))
+        return 0;
+    refused("usm_import", answer);
+    return 1;
 }
 
 /* One byte of the second of three blocks is changed on its way: the other two are saved, and it is listed. */
@@ -292,19 +282,19 @@ static int salvage_a_file(const struct sheet *sheet)
     uint8_t file[3 * USM_BLOCK_BYTES], sound[3 * USM_BLOCK_BYTES], numbers[3];
     uint32_t indices[3];
     uint64_t answer[USM_ANSWER_NUMBERS];
-    usm_write_file(sheet->holdings, sizeof sheet->holdings, sheet->placement, sizeof sheet->placement,
-                   sheet->claims, sizeof sheet->claims, USM_OLD_FORM, 0, file, sizeof file, answer);
-    if (refused("usm_write_file", answer))
-        return 0;
+    if (usm_write_file(sheet->holdings, sizeof sheet->holdings, sheet->placement, sizeof sheet->placement,
+                       sheet->claims, sizeof sheet->claims, USM_OLD_FORM, 0, file, sizeof file, answer))
+        return refused("usm_write_file", answer);
     file[USM_BLOCK_BYTES + USM_BLOCK_RECORDS]++;
-    usm_salvage(file, sizeof file, sound, sizeof sound, indices, 3, numbers, 3, answer);
-    if (refused("usm_salvage", answer))
-        return 0;
+    if (usm_salvage(file, sizeof file, sound, sizeof sound, indices, 3, numbers, 3, answer))
+        return refused("usm_salvage", answer);
     printf("salvaged a file of %" PRIu64 " bytes\n", answer[1]);
     for (uint64_t i = 0; i < answer[2]; i++)
         printf("block %" PRIu32 " dropped: %u\n", indices[i], (unsigned)numbers[i]);
-    usm_salvage(file + USM_BLOCK_BYTES, USM_BLOCK_BYTES, sound, sizeof sound, indices, 3, numbers, 3, answer);
-    return refused("usm_salvage", answer);
+    if (!usm_salvage(file + USM_BLOCK_BYTES, USM_BLOCK_BYTES, sound, sizeof sound, indices, 3, numbers, 3, answer))
+        return 0;
+    refused("usm_salvage", answer);
+    return 1;
 }
 
 /* Credit event binaries: ten written, eight bought and paid for in full beside them, and some that expired. */
@@ -312,16 +302,16 @@ static int print_binaries(void)
 {
     const uint64_t valuation = 20110315, reference = 7, spread = 250, expiry = 20160620;
     uint64_t answer[USM_ANSWER_NUMBERS];
-    usm_binary_margin(USM_SHORT, spread, valuation, expiry, 10, answer);
-    if (refused("usm_binary_margin", answer))
-        return 0;
+    if (usm_binary_margin(USM_SHORT, spread, valuation, expiry, 10, answer))
+        return refused("usm_binary_margin", answer);
     printf("ten binaries short: margin %" PRId64 "\n", (int64_t)answer[1]);
-    usm_binary_pair(valuation, reference, spread, expiry, 8, 1, reference, spread, expiry, 10, answer);
-    if (refused("usm_binary_pair", answer))
-        return 0;
+    if (usm_binary_pair(valuation, reference, spread, expiry, 8, 1, reference, spread, expiry, 10, answer))
+        return refused("usm_binary_pair", answer);
     printf("with eight long beside them: margin %" PRId64 "\n", (int64_t)answer[1]);
-    usm_binary_margin(USM_LONG, spread, valuation, valuation - 1, 10, answer);
-    return refused("usm_binary_margin", answer);
+    if (!usm_binary_margin(USM_LONG, spread, valuation, valuation - 1, 10, answer))
+        return 0;
+    refused("usm_binary_margin", answer);
+    return 1;
 }
 
 /* An empty table is NULL and 0. */
@@ -329,8 +319,9 @@ static int write_nothing(void)
 {
     uint8_t file[USM_BLOCK_BYTES];
     uint64_t answer[USM_ANSWER_NUMBERS];
-    usm_write_file(NULL, 0, NULL, 0, NULL, 0, USM_OLD_FORM, 0, file, sizeof file, answer);
-    return !refused("usm_write_file", answer);
+    if (usm_write_file(NULL, 0, NULL, 0, NULL, 0, USM_OLD_FORM, 0, file, sizeof file, answer))
+        return refused("usm_write_file", answer);
+    return 1;
 }
 
 int main(void)

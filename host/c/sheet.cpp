@@ -112,11 +112,11 @@ int main()
     print("no placement", check(holdings, empty, empty));
     print("no holdings", check(empty, placement, claims));
     Answer answer;
-    usm_check_file(empty.data(), empty.size(), answer.data());
-    print("no file", answer);
+    if (usm_check_file(empty.data(), empty.size(), answer.data()))
+        print("no file", answer);
     std::vector<std::int64_t> no_room;
-    usm_margins(placement.data(), placement.size(), 1, no_room.data(), no_room.size(), answer.data());
-    print("no room", answer);
+    if (usm_margins(placement.data(), placement.size(), 1, no_room.data(), no_room.size(), answer.data()))
+        print("no room", answer);
     Bytes fills;
     add_fill(fills, USM_CLOSE, USM_LONG, 60000);
     add_fill(fills, USM_CLOSE, USM_LONG, 60000);

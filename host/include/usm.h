@@ -29,6 +29,9 @@
  *                 success  { 0, ... }  the results, as told at each call
  *                 refusal  { number, table, place, 0 }, number 1 to 25 but 18, which
  *                          is only listed
+ *               The first of them is returned, too, 0 or the refusal's number, so that
+ *               `if (usm_check_file(..))` is taken on a refusal. The two calls that print return
+ *               a length.
  *               table: 0 none, 1 holdings, 2 placement, 3 claims, 4 fills, 5 roots, 6 list.
  *   Buffers     On a refusal nothing lent is written but `answer`, and the `line` and `text` of
  *               the two calls that print. On success what lies past the output stays as it was.
@@ -101,7 +104,7 @@ extern "C" {
 #endif
 
 /* The version of the whole: the library, `sheet --version`, the pkg-config file and the package. */
-#define USM_VERSION "0.15.0"
+#define USM_VERSION "0.16.0"
 
 /* Sizes and limits. */
 enum {
@@ -229,7 +232,7 @@ enum {
  *   success  { 0, records, 0, 0 }
  * A kind other than 1, 2 or 3 is refusal 1, table 0, place 0.
  */
-void usm_check_table(uint64_t kind, const uint8_t *table, size_t table_len, uint64_t *answer);
+uint64_t usm_check_table(uint64_t kind, const uint8_t *table, size_t table_len, uint64_t *answer);
 
 /*
  * The margin of group g of a placement: the greatest of 0 and the losses at the strikes found in the
@@ -242,7 +245,7 @@ void usm_check_table(uint64_t kind, const uint8_t *table, size_t table_len, uint
  *            that of 7, 8, 9, 10 and 13 the lowest record such that the group's legs up to and with
  *            it already break the condition. g may be any number; 0 and those above 32 are 6.
  */
-void usm_margin(const uint8_t *placement, size_t placement_len, uint64_t g, uint64_t *answer);
+uint64_t usm_margin(const uint8_t *placement, size_t placement_len, uint64_t g, uint64_t *answer);
 
 /*
  * The cash that group g of a placement requires in a cash account: the greatest of 0 and the losses at
@@ -251,7 +254,7 @@ void usm_margin(const uint8_t *placement, size_t placement_len, uint64_t g, uint
  *   refusals as usm_margin; then 21, table 2, place g, unless all legs are European, all are stated as
  *            USM_CASH, and all have one expiry.
  */
-void usm_cash(const uint8_t *placement, size_t placement_len, uint64_t g, uint64_t *answer);
+uint64_t usm_cash(const uint8_t *placement, size_t placement_len, uint64_t g, uint64_t *answer);
 
 /*
  * The margins of groups 1 to n: that of group g goes to out[g - 1].
@@ -260,8 +263,8 @@ void usm_cash(const uint8_t *placement, size_t placement_len, uint64_t g, uint64
  *            6 to 13 (so an n above 32 ends with 6, table 2, place 33 at the latest);
  *            then 17, table 0, place n, if out has fewer than n entries.
  */
-void usm_margins(const uint8_t *placement, size_t placement_len, uint64_t n,
-                 int64_t *out, size_t out_len, uint64_t *answer);
+uint64_t usm_margins(const uint8_t *placement, size_t placement_len, uint64_t n,
+                     int64_t *out, size_t out_len, uint64_t *answer);
 
 /*
  * The worksheet of group g: its distinct strikes, ascending, from strikes[0], and the net
@@ -270,9 +273,9 @@ void usm_margins(const uint8_t *placement, size_t placement_len, uint64_t n,
  *   refusals as usm_margin; then 17, table 0, place the strikes needed, if either slice
  *            has fewer entries. 256 entries are always enough.
  */
-void usm_worksheet(const uint8_t *placement, size_t placement_len, uint64_t g,
-                   uint32_t *strikes, size_t strikes_len,
-                   int64_t *nets, size_t nets_len, uint64_t *answer);
+uint64_t usm_worksheet(const uint8_t *placement, size_t placement_len, uint64_t g,
+                       uint32_t *strikes, size_t strikes_len,
+                       int64_t *nets, size_t nets_len, uint64_t *answer);
 
 /*
  * The margin of a position in a credit event binary option (CBOE circular RG11-039): contracts times a
@@ -289,8 +292,8 @@ void usm_worksheet(const uint8_t *placement, size_t placement_len, uint64_t g,
  *   refusals 4, table 0, place 0, for any of the five; then 25, table 0, place 0, for an expiry before the
  *            valuation date. An option that expires on it is answered.
  */
-void usm_binary_margin(uint64_t side, uint64_t spread, uint64_t valuation, uint64_t expiry,
-                       uint64_t contracts, uint64_t *answer);
+uint64_t usm_binary_margin(uint64_t side, uint64_t spread, uint64_t valuation, uint64_t expiry,
+                           uint64_t contracts, uint64_t *answer);
 
 /*
  * The margin of a long and a short position together. Where both are on the same reference obligation, any
@@ -302,10 +305,10 @@ void usm_binary_margin(uint64_t side, uint64_t spread, uint64_t valuation, uint6
  *            date; 4, table 0, place 1, for a field of the short; then 25, table 0, place 0 for the long's
  *            expiry, then place 1 for the short's.
  */
-void usm_binary_pair(uint64_t valuation, uint64_t long_reference, uint64_t long_spread,
-                     uint64_t long_expiry, uint64_t long_contracts, uint64_t long_paid,
-                     uint64_t short_reference, uint64_t short_spread, uint64_t short_expiry,
-                     uint64_t short_contracts, uint64_t *answer);
+uint64_t usm_binary_pair(uint64_t valuation, uint64_t long_reference, uint64_t long_spread,
+                         uint64_t long_expiry, uint64_t long_contracts, uint64_t long_paid,
+                         uint64_t short_reference, uint64_t short_spread, uint64_t short_expiry,
+                         uint64_t short_contracts, uint64_t *answer);
 
 /*
  * Sets the paid mark on every unplaced long of a placement, where it stands. Sheets from before the mark
@@ -313,7 +316,7 @@ void usm_binary_pair(uint64_t valuation, uint64_t long_reference, uint64_t long_
  *   success  { 0, marks set, 0, 0 }: those that were not set before; all other bytes stay
  *   refusals 1; 4 over the whole table; then nothing is changed.
  */
-void usm_mark_paid(uint8_t *placement, size_t placement_len, uint64_t *answer);
+uint64_t usm_mark_paid(uint8_t *placement, size_t placement_len, uint64_t *answer);
 
 /*
  * The verdict on a sheet given as three tables.
@@ -324,9 +327,9 @@ void usm_mark_paid(uint8_t *placement, size_t placement_len, uint64_t *answer);
  *            record; 5, claims first; 6 to 13, groups ascending; 14; 15; 16.
  * Three empty tables are accepted with no group.
  */
-void usm_check_sheet(const uint8_t *holdings, size_t holdings_len,
-                     const uint8_t *placement, size_t placement_len,
-                     const uint8_t *claims, size_t claims_len, uint64_t *answer);
+uint64_t usm_check_sheet(const uint8_t *holdings, size_t holdings_len,
+                         const uint8_t *placement, size_t placement_len,
+                         const uint8_t *claims, size_t claims_len, uint64_t *answer);
 
 /*
  * The verdict on a sheet file of either form.
@@ -334,7 +337,7 @@ void usm_check_sheet(const uint8_t *holdings, size_t holdings_len,
  *   refusals 1 about the file; 2, 3 and 20 in each block, in this order, blocks in file order;
  *            then 4 to 16 as usm_check_sheet. A block of another form than the first is 3.
  */
-void usm_check_file(const uint8_t *file, size_t file_len, uint64_t *answer);
+uint64_t usm_check_file(const uint8_t *file, size_t file_len, uint64_t *answer);
 
 /*
  * Takes a sheet file of either form apart: each kind's records go to its lent table from byte 0,
@@ -347,10 +350,10 @@ void usm_check_file(const uint8_t *file, size_t file_len, uint64_t *answer);
  * The lent tables may have any length; USM_LEGS_BYTES, USM_LEGS_BYTES and USM_CLAIMS_BYTES
  * are always enough.
  */
-void usm_read_file(const uint8_t *file, size_t file_len,
-                   uint8_t *holdings, size_t holdings_len,
-                   uint8_t *placement, size_t placement_len,
-                   uint8_t *claims, size_t claims_len, uint64_t *origin, uint64_t *answer);
+uint64_t usm_read_file(const uint8_t *file, size_t file_len,
+                       uint8_t *holdings, size_t holdings_len,
+                       uint8_t *placement, size_t placement_len,
+                       uint8_t *claims, size_t claims_len, uint64_t *origin, uint64_t *answer);
 
 /*
  * Writes three tables as a sheet file of this form and account to out. In the old form the account
@@ -361,10 +364,10 @@ void usm_read_file(const uint8_t *file, size_t file_len,
  *            17, table 0, place the bytes needed. USM_LONGEST_FILE is always enough.
  * Tables that no check would accept are written all the same.
  */
-void usm_write_file(const uint8_t *holdings, size_t holdings_len,
-                    const uint8_t *placement, size_t placement_len,
-                    const uint8_t *claims, size_t claims_len, uint64_t form, uint64_t account,
-                    uint8_t *out, size_t out_len, uint64_t *answer);
+uint64_t usm_write_file(const uint8_t *holdings, size_t holdings_len,
+                        const uint8_t *placement, size_t placement_len,
+                        const uint8_t *claims, size_t claims_len, uint64_t form, uint64_t account,
+                        uint8_t *out, size_t out_len, uint64_t *answer);
 
 /*
  * Moves a sheet file of the old form to the new one, with this account in each block; all else stays.
@@ -374,8 +377,8 @@ void usm_write_file(const uint8_t *holdings, size_t holdings_len,
  *            says of the file (2, 3, 20; 4); 3, table 0, place 0, for a file of the new form; 17,
  *            table 0, place the bytes needed, which are as many as the file has.
  */
-void usm_move_to_new(const uint8_t *file, size_t file_len, uint64_t account,
-                     uint8_t *out, size_t out_len, uint64_t *answer);
+uint64_t usm_move_to_new(const uint8_t *file, size_t file_len, uint64_t account,
+                         uint8_t *out, size_t out_len, uint64_t *answer);
 
 /*
  * Moves a sheet file of the new form to the old one, which has no account. Moved again to the new
@@ -384,7 +387,7 @@ void usm_move_to_new(const uint8_t *file, size_t file_len, uint64_t account,
  *   refusals as usm_move_to_new, without 20 for a supplied number; 3, table 0, place 0, is for a file of
  *            the old form.
  */
-void usm_move_to_old(const uint8_t *file, size_t file_len, uint8_t *out, size_t out_len, uint64_t *answer);
+uint64_t usm_move_to_old(const uint8_t *file, size_t file_len, uint8_t *out, size_t out_len, uint64_t *answer);
 
 /*
  * Salvages a damaged file of 1 to USM_LONGEST_FILE bytes. Each piece of USM_BLOCK_BYTES is judged by itself,
@@ -403,10 +406,10 @@ void usm_move_to_old(const uint8_t *file, size_t file_len, uint8_t *out, size_t 
  *            USM_LONGEST_FILE bytes and USM_MOST_BLOCKS entries are always enough.
  * usm_read_file takes the file that comes out; whether its sheet is accepted is for usm_check_file to say.
  */
-void usm_salvage(const uint8_t *bytes, size_t bytes_len,
-                 uint8_t *out, size_t out_len,
-                 uint32_t *indices, size_t indices_len,
-                 uint8_t *numbers, size_t numbers_len, uint64_t *answer);
+uint64_t usm_salvage(const uint8_t *bytes, size_t bytes_len,
+                     uint8_t *out, size_t out_len,
+                     uint32_t *indices, size_t indices_len,
+                     uint8_t *numbers, size_t numbers_len, uint64_t *answer);
 
 /*
  * Plays the day's fills over yesterday's holdings, in order, as a ledger from line and side to contracts
@@ -425,11 +428,11 @@ void usm_salvage(const uint8_t *bytes, size_t bytes_len,
  *            either list has fewer entries. All of them come before any fill is played.
  * Result and lists may overlap neither the holdings nor the fills nor each other.
  */
-void usm_play_fills(const uint8_t *holdings, size_t holdings_len,
-                    const uint8_t *fills, size_t fills_len,
-                    uint8_t *result, size_t result_len,
-                    uint32_t *indices, size_t indices_len,
-                    uint8_t *numbers, size_t numbers_len, uint64_t *answer);
+uint64_t usm_play_fills(const uint8_t *holdings, size_t holdings_len,
+                        const uint8_t *fills, size_t fills_len,
+                        uint8_t *result, size_t result_len,
+                        uint32_t *indices, size_t indices_len,
+                        uint8_t *numbers, size_t numbers_len, uint64_t *answer);
 
 /*
  * Makes a member's list of option symbols into holdings: a record for each line, in their order, with
@@ -443,8 +446,8 @@ void usm_play_fills(const uint8_t *holdings, size_t holdings_len,
  *            24, each with table 6 and the line; 1, table 0, place 0, for more than 256 lines; 17,
  *            table 1, place the bytes needed. USM_LEGS_BYTES are always enough.
  */
-void usm_import(const uint8_t *roots, size_t roots_len, const uint8_t *list, size_t list_len,
-                uint8_t *holdings, size_t holdings_len, uint64_t *answer);
+uint64_t usm_import(const uint8_t *roots, size_t roots_len, const uint8_t *list, size_t list_len,
+                    uint8_t *holdings, size_t holdings_len, uint64_t *answer);
 
 /*
  * Makes holdings into a list of option symbols, the reverse of usm_import: a line for each record, in
@@ -454,8 +457,8 @@ void usm_import(const uint8_t *roots, size_t roots_len, const uint8_t *list, siz
  *            for terms that no root has, each with table 1 and the record; 17, table 6, place the bytes
  *            needed. USM_LIST_BYTES are always enough.
  */
-void usm_export(const uint8_t *roots, size_t roots_len, const uint8_t *holdings, size_t holdings_len,
-                uint8_t *list, size_t list_len, uint64_t *answer);
+uint64_t usm_export(const uint8_t *roots, size_t roots_len, const uint8_t *holdings, size_t holdings_len,
+                    uint8_t *list, size_t list_len, uint64_t *answer);
 
 /*
  * The line that usm_check prints for this file, "ACCEPT groups total\n" or

@@ -3,33 +3,7 @@
 
 use crate::calls::ask;
 use crate::ffi;
-use crate::records::Side;
-use crate::refusal::Refusal;
-
-/// Greatest credit default swap spread, in basis points.
-pub const GREATEST_SPREAD: u64 = 100_000;
-
-/// A position in one credit event binary. Nothing is held against its range before a call is asked.
-#[derive(Clone, Copy, Debug, PartialEq, Eq)]
-pub struct Binary {
-    /// The number of its reference obligation: any.
-    pub reference: u64,
-    /// The credit default swap spread of its reference entity, in basis points: 0 to [`GREATEST_SPREAD`].
-    pub spread: u64,
-    /// A date YYYYMMDD from 20000101 to 20991231, not before the valuation date.
-    pub expiry: u64,
-    /// 1 to [`crate::MOST_CONTRACTS`].
-    pub contracts: u64,
-}
-
-/// The long of a pair.
-#[derive(Clone, Copy, Debug, PartialEq, Eq)]
-pub struct LongBinary {
-    /// The position.
-    pub binary: Binary,
-    /// Whether it is paid for in full.
-    pub paid: bool,
-}
+use usm_values::{Binary, LongBinary, Refusal, Side};
 
 /// The margin of one position in mills: 4 for a field or a date out of range, then 25 for an expiry before the
 /// valuation date.

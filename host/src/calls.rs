@@ -4,17 +4,14 @@
 //! lies past the output stays as it was.
 
 use crate::ffi;
-use crate::form::{Form, Origin};
-use crate::records::Table;
-use crate::refusal::{Accepted, PlayCounts, RecordCounts, Refusal, SalvageCounts};
+use usm_values::{Accepted, Form, Origin, PlayCounts, RecordCounts, Refusal, SalvageCounts, Table};
 
 /// Runs a call that fills the four numbers of an answer, and parts results from refusals.
-pub(crate) fn ask(call: impl FnOnce(&mut ffi::Answer)) -> Result<[u64; 3], Refusal> {
+pub(crate) fn ask(call: impl FnOnce(&mut ffi::Answer) -> u64) -> Result<[u64; 3], Refusal> {
     let mut answer = [0; 4];
-    call(&mut answer);
-    match answer {
-        [0, first, second, third] => Ok([first, second, third]),
-        [number, table, place, _] => Err(Refusal::new(number, table, place)),
+    match (call(&mut answer), answer) {
+        (0, [_, first, second, third]) => Ok([first, second, third]),
+        (number, [_, table, place, _]) => Err(Refusal::new(number, table, place)),
     }
 }
 

@@ -2,7 +2,7 @@
 //! package stands here, and the one place that calls it, on Rust slices.
 //!
 //! An answer is four numbers, always written: 0 and the results, or refusal number, table,
-//! place and 0.
+//! place and 0. The first of them is returned, too.
 
 #![allow(unsafe_code)] // The one module that may: it is the way to the library.
 
@@ -16,11 +16,11 @@ pub const TABLE_BYTES: usize = 8704;
 pub type Answer = [u64; 4];
 
 extern "C" {
-    fn usm_check_table(kind: u64, table: *const u8, table_len: usize, answer: *mut u64);
+    fn usm_check_table(kind: u64, table: *const u8, table_len: usize, answer: *mut u64) -> u64;
 
-    fn usm_margin(placement: *const u8, placement_len: usize, g: u64, answer: *mut u64);
+    fn usm_margin(placement: *const u8, placement_len: usize, g: u64, answer: *mut u64) -> u64;
 
-    fn usm_cash(placement: *const u8, placement_len: usize, g: u64, answer: *mut u64);
+    fn usm_cash(placement: *const u8, placement_len: usize, g: u64, answer: *mut u64) -> u64;
 
     fn usm_margins(
         placement: *const u8,
@@ -29,7 +29,7 @@ extern "C" {
         out: *mut i64,
         out_len: usize,
         answer: *mut u64,
-    );
+    ) -> u64;
 
     fn usm_worksheet(
         placement: *const u8,
@@ -40,9 +40,9 @@ extern "C" {
         nets: *mut i64,
         nets_len: usize,
         answer: *mut u64,
-    );
+    ) -> u64;
 
-    fn usm_mark_paid(placement: *mut u8, placement_len: usize, answer: *mut u64);
+    fn usm_mark_paid(placement: *mut u8, placement_len: usize, answer: *mut u64) -> u64;
 
     fn usm_check_sheet(
         holdings: *const u8,
@@ -52,9 +52,9 @@ extern "C" {
         claims: *const u8,
         claims_len: usize,
         answer: *mut u64,
-    );
+    ) -> u64;
 
-    fn usm_check_file(file: *const u8, file_len: usize, answer: *mut u64);
+    fn usm_check_file(file: *const u8, file_len: usize, answer: *mut u64) -> u64;
 
     fn usm_read_file(
         file: *const u8,
@@ -67,7 +67,7 @@ extern "C" {
         claims_len: usize,
         origin: *mut u64,
         answer: *mut u64,
-    );
+    ) -> u64;
 
     fn usm_write_file(
         holdings: *const u8,
@@ -81,7 +81,7 @@ extern "C" {
         out: *mut u8,
         out_len: usize,
         answer: *mut u64,
-    );
+    ) -> u64;
 
     fn usm_move_to_new(
         file: *const u8,
@@ -90,9 +90,15 @@ extern "C" {
         out: *mut u8,
         out_len: usize,
         answer: *mut u64,
-    );
+    ) -> u64;
 
-    fn usm_move_to_old(file: *const u8, file_len: usize, out: *mut u8, out_len: usize, answer: *mut u64);
+    fn usm_move_to_old(
+        file: *const u8,
+        file_len: usize,
+        out: *mut u8,
+        out_len: usize,
+        answer: *mut u64,
+    ) -> u64;
 
     fn usm_play_fills(
         holdings: *const u8,
@@ -106,7 +112,7 @@ extern "C" {
         numbers: *mut u8,
         numbers_len: usize,
         answer: *mut u64,
-    );
+    ) -> u64;
 
     fn usm_import(
         roots: *const u8,
@@ -116,7 +122,7 @@ extern "C" {
         holdings: *mut u8,
         holdings_len: usize,
         answer: *mut u64,
-    );
+    ) -> u64;
 
     fn usm_export(
         roots: *const u8,
@@ -126,7 +132,7 @@ extern "C" {
         list: *mut u8,
         list_len: usize,
         answer: *mut u64,
-    );
+    ) -> u64;
 
     fn usm_salvage(
         bytes: *const u8,
@@ -138,7 +144,7 @@ extern "C" {
         numbers: *mut u8,
         numbers_len: usize,
         answer: *mut u64,
-    );
+    ) -> u64;
 
     fn usm_binary_margin(
         side: u64,
@@ -147,7 +153,7 @@ extern "C" {
         expiry: u64,
         contracts: u64,
         answer: *mut u64,
-    );
+    ) -> u64;
 
     fn usm_binary_pair(
         valuation: u64,
@@ -161,7 +167,7 @@ extern "C" {
         short_expiry: u64,
         short_contracts: u64,
         answer: *mut u64,
-    );
+    ) -> u64;
 
     fn usm_file_line(file: *const u8, file_len: usize, line: *mut u8) -> usize;
 
@@ -172,25 +178,31 @@ extern "C" {
 // It is never null, not even for an empty slice, and what is lent for writing is a `&mut`,
 // which overlaps nothing else. The library has no other condition.
 
-pub fn check_table(kind: u64, table: &[u8], answer: &mut Answer) {
+pub fn check_table(kind: u64, table: &[u8], answer: &mut Answer) -> u64 {
     unsafe { usm_check_table(kind, table.as_ptr(), table.len(), answer.as_mut_ptr()) }
 }
 
-pub fn margin(placement: &[u8], g: u64, answer: &mut Answer) {
+pub fn margin(placement: &[u8], g: u64, answer: &mut Answer) -> u64 {
     unsafe { usm_margin(placement.as_ptr(), placement.len(), g, answer.as_mut_ptr()) }
 }
 
-pub fn cash(placement: &[u8], g: u64, answer: &mut Answer) {
+pub fn cash(placement: &[u8], g: u64, answer: &mut Answer) -> u64 {
     unsafe { usm_cash(placement.as_ptr(), placement.len(), g, answer.as_mut_ptr()) }
 }
 
-pub fn margins(placement: &[u8], n: u64, out: &mut [i64], answer: &mut Answer) {
+pub fn margins(placement: &[u8], n: u64, out: &mut [i64], answer: &mut Answer) -> u64 {
     unsafe {
         usm_margins(placement.as_ptr(), placement.len(), n, out.as_mut_ptr(), out.len(), answer.as_mut_ptr())
     }
 }
 
-pub fn worksheet(placement: &[u8], g: u64, strikes: &mut [u32], nets: &mut [i64], answer: &mut Answer) {
+pub fn worksheet(
+    placement: &[u8],
+    g: u64,
+    strikes: &mut [u32],
+    nets: &mut [i64],
+    answer: &mut Answer,
+) -> u64 {
     unsafe {
         usm_worksheet(
             placement.as_ptr(),
@@ -205,11 +217,11 @@ pub fn worksheet(placement: &[u8], g: u64, strikes: &mut [u32], nets: &mut [i64]
     }
 }
 
-pub fn mark_paid(placement: &mut [u8], answer: &mut Answer) {
+pub fn mark_paid(placement: &mut [u8], answer: &mut Answer) -> u64 {
     unsafe { usm_mark_paid(placement.as_mut_ptr(), placement.len(), answer.as_mut_ptr()) }
 }
 
-pub fn check_sheet(holdings: &[u8], placement: &[u8], claims: &[u8], answer: &mut Answer) {
+pub fn check_sheet(holdings: &[u8], placement: &[u8], claims: &[u8], answer: &mut Answer) -> u64 {
     unsafe {
         usm_check_sheet(
             holdings.as_ptr(),
@@ -223,7 +235,7 @@ pub fn check_sheet(holdings: &[u8], placement: &[u8], claims: &[u8], answer: &mu
     }
 }
 
-pub fn check_file(file: &[u8], answer: &mut Answer) {
+pub fn check_file(file: &[u8], answer: &mut Answer) -> u64 {
     unsafe { usm_check_file(file.as_ptr(), file.len(), answer.as_mut_ptr()) }
 }
 
@@ -234,7 +246,7 @@ pub fn read_file(
     claims: &mut [u8],
     origin: &mut [u64; 2],
     answer: &mut Answer,
-) {
+) -> u64 {
     unsafe {
         usm_read_file(
             file.as_ptr(),
@@ -259,7 +271,7 @@ pub fn write_file(
     [form, account]: [u64; 2],
     out: &mut [u8],
     answer: &mut Answer,
-) {
+) -> u64 {
     unsafe {
         usm_write_file(
             holdings.as_ptr(),
@@ -277,13 +289,13 @@ pub fn write_file(
     }
 }
 
-pub fn move_to_new(file: &[u8], account: u64, out: &mut [u8], answer: &mut Answer) {
+pub fn move_to_new(file: &[u8], account: u64, out: &mut [u8], answer: &mut Answer) -> u64 {
     unsafe {
         usm_move_to_new(file.as_ptr(), file.len(), account, out.as_mut_ptr(), out.len(), answer.as_mut_ptr())
     }
 }
 
-pub fn move_to_old(file: &[u8], out: &mut [u8], answer: &mut Answer) {
+pub fn move_to_old(file: &[u8], out: &mut [u8], answer: &mut Answer) -> u64 {
     unsafe { usm_move_to_old(file.as_ptr(), file.len(), out.as_mut_ptr(), out.len(), answer.as_mut_ptr()) }
 }
 
@@ -294,7 +306,7 @@ pub fn play_fills(
     indices: &mut [u32],
     numbers: &mut [u8],
     answer: &mut Answer,
-) {
+) -> u64 {
     unsafe {
         usm_play_fills(
             holdings.as_ptr(),
@@ -312,7 +324,7 @@ pub fn play_fills(
     }
 }
 
-pub fn import(roots: &[u8], list: &[u8], holdings: &mut [u8], answer: &mut Answer) {
+pub fn import(roots: &[u8], list: &[u8], holdings: &mut [u8], answer: &mut Answer) -> u64 {
     unsafe {
         usm_import(
             roots.as_ptr(),
@@ -326,7 +338,7 @@ pub fn import(roots: &[u8], list: &[u8], holdings: &mut [u8], answer: &mut Answe
     }
 }
 
-pub fn export(roots: &[u8], holdings: &[u8], list: &mut [u8], answer: &mut Answer) {
+pub fn export(roots: &[u8], holdings: &[u8], list: &mut [u8], answer: &mut Answer) -> u64 {
     unsafe {
         usm_export(
             roots.as_ptr(),
@@ -340,7 +352,13 @@ pub fn export(roots: &[u8], holdings: &[u8], list: &mut [u8], answer: &mut Answe
     }
 }
 
-pub fn salvage(bytes: &[u8], out: &mut [u8], indices: &mut [u32], numbers: &mut [u8], answer: &mut Answer) {
+pub fn salvage(
+    bytes: &[u8],
+    out: &mut [u8],
+    indices: &mut [u32],
+    numbers: &mut [u8],
+    answer: &mut Answer,
+) -> u64 {
     unsafe {
         usm_salvage(
             bytes.as_ptr(),
@@ -357,12 +375,12 @@ pub fn salvage(bytes: &[u8], out: &mut [u8], indices: &mut [u32], numbers: &mut 
 }
 
 /// Side, spread, valuation date, expiry and contracts.
-pub fn binary_margin([side, spread, valuation, expiry, contracts]: [u64; 5], answer: &mut Answer) {
+pub fn binary_margin([side, spread, valuation, expiry, contracts]: [u64; 5], answer: &mut Answer) -> u64 {
     unsafe { usm_binary_margin(side, spread, valuation, expiry, contracts, answer.as_mut_ptr()) }
 }
 
 /// A position is reference obligation, spread, expiry and contracts; behind the long's stands its paid mark.
-pub fn binary_pair(valuation: u64, long: [u64; 5], short: [u64; 4], answer: &mut Answer) {
+pub fn binary_pair(valuation: u64, long: [u64; 5], short: [u64; 4], answer: &mut Answer) -> u64 {
     unsafe {
         usm_binary_pair(
             valuation,

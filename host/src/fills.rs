@@ -1,9 +1,8 @@
 //! A day's fills played over holdings, as Rust values.
 
 use crate::calls;
-use crate::records::{Fill, Leg, Table, FILLS_TABLE, RECORD_BYTES};
-use crate::refusal::Refusal;
 use crate::sheet::{leg_table, records};
+use usm_values::{Fill, Leg, Refusal, Table, FILLS_TABLE, RECORD_BYTES};
 
 /// What fills make of holdings.
 #[derive(Clone, Debug, PartialEq, Eq)]

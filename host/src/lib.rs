@@ -8,6 +8,7 @@
 //! [`holdings_of_list`] from a list of option symbols, and [`salvage_file`] makes a sound file of a damaged
 //! one; [`binary_margin`] and [`binary_pair`] are for credit event binaries. [`sentences`] says for people
 //! what is wrong, [`text`] reads and writes sheets as text, and [`csv`] their tables as a spreadsheet does.
+//! [`ffi`] has the calls with their answers as C gets them.
 //!
 //! No call keeps any state: all may be made from any number of threads at once.
 
@@ -18,59 +19,36 @@
 pub const VERSION: &str = env!("USM_VERSION");
 
 pub mod csv;
-pub mod numbers;
+// What each of these answers is said in include/usm.h.
+#[allow(missing_docs)]
+pub mod ffi;
 pub mod sentences;
 pub mod text;
-
-// For the tests, the samples, the benchmark and the programs beside this library; no part of what it
-// promises. `model` is the second implementation, `both` holds the two side by side.
-#[doc(hidden)]
-pub mod accounts;
-#[doc(hidden)]
-pub mod block;
-#[doc(hidden)]
-pub mod both;
-#[doc(hidden)]
-pub mod ffi;
-#[doc(hidden)]
-pub mod fields;
-#[doc(hidden)]
-pub mod lent;
-#[doc(hidden)]
-pub mod model;
-#[doc(hidden)]
-pub mod program;
 
 mod binaries;
 mod calls;
 mod fills;
-mod form;
 mod joining;
 mod lists;
-mod reason;
-mod records;
-mod refusal;
 mod salvage;
 mod sheet;
 
-pub use binaries::{
-    binary_cell, binary_margin, binary_pair, Binary, Cell, LongBinary, GREATEST_SPREAD, SPREADS, TIMES,
-};
-pub use block::{BLOCK_BYTES, LONGEST_FILE, MOST_BLOCKS};
+pub use binaries::{binary_cell, binary_margin, binary_pair, Cell, SPREADS, TIMES};
 pub use calls::{
     cash, check_file, check_sheet, check_table, export, file_line, file_table, import, margin, margins,
     mark_paid, move_to_new, move_to_old, play_fills, read_file, salvage, worksheet, write_file,
 };
 pub use fills::{fill_table, play, Played};
-pub use form::{Form, Origin};
 pub use lists::{holdings_of_list, list_of_holdings, root_table};
-pub use reason::Reason;
-pub use records::{
-    is_expiry, padded_root, Action, Claim, Fill, Leg, Line, Market, OptionType, Root, Series, Settlement,
-    Side, Style, Table, FILLS_TABLE, GREATEST_AMOUNT, GREATEST_STRIKE, GREATEST_UNIT_SIZE, LIST_TABLE,
-    LONGEST_LINE, LONGEST_LIST, MOST_CLAIMS, MOST_CONTRACTS, MOST_FILLS, MOST_LEGS, MOST_LINES, MOST_ROOTS,
-    MOST_WORK, RECORD_BYTES, ROOTS_TABLE, ROOT_BYTES, ROOT_NAME_BYTES,
-};
-pub use refusal::{Accepted, PlayCounts, RecordCounts, Refusal, SalvageCounts};
 pub use salvage::{salvage_file, Dropped, Salvaged};
 pub use sheet::{claim_table, leg_table, Sheet, Tables};
+
+#[doc(inline)]
+pub use usm_values::{
+    is_expiry, numbers, padded_root, Accepted, Action, Binary, Claim, Fill, Form, Leg, Line, LongBinary,
+    Market, OptionType, Origin, PlayCounts, Reason, RecordCounts, Refusal, Root, SalvageCounts, Series,
+    Settlement, Side, Style, Table, BLOCK_BYTES, FILLS_TABLE, GREATEST_AMOUNT, GREATEST_SPREAD,
+    GREATEST_STRIKE, GREATEST_UNIT_SIZE, LIST_TABLE, LONGEST_FILE, LONGEST_LINE, LONGEST_LIST, MOST_BLOCKS,
+    MOST_CLAIMS, MOST_CONTRACTS, MOST_FILLS, MOST_LEGS, MOST_LINES, MOST_ROOTS, MOST_WORK, RECORD_BYTES,
+    ROOTS_TABLE, ROOT_BYTES, ROOT_NAME_BYTES,
+};

@@ -1,9 +1,8 @@
 //! Lists of option symbols, as Rust values (document 02, [9]).
 
 use crate::calls;
-use crate::records::{Leg, Root, Table, LONGEST_LIST, ROOT_BYTES};
-use crate::refusal::Refusal;
 use crate::sheet::{leg_table, records};
+use usm_values::{Leg, Refusal, Root, Table, LONGEST_LIST, ROOT_BYTES};
 
 /// The holdings that a list of option symbols says, one for each line, without paid marks. It is refused for
 /// the roots (23), for a line (22, 4, 24), and for more than [`crate::MOST_LINES`] of them (1).

@@ -1,9 +1,8 @@
 //! What is whole in a damaged file, as Rust values.
 
-use crate::block::{LONGEST_FILE, MOST_BLOCKS};
 use crate::calls;
-use crate::reason::Reason;
-use crate::refusal::Refusal;
+use usm_values::block::{LONGEST_FILE, MOST_BLOCKS};
+use usm_values::{Reason, Refusal};
 
 /// What could be kept of a damaged file.
 #[derive(Clone, Debug, PartialEq, Eq)]

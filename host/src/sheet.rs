@@ -1,10 +1,8 @@
 //! A sheet as Rust values: legs and claims instead of bytes.
 
-use crate::block::LONGEST_FILE;
 use crate::calls;
-use crate::form::Origin;
-use crate::records::{Claim, Leg, Table, RECORD_BYTES};
-use crate::refusal::{Accepted, Refusal};
+use usm_values::block::LONGEST_FILE;
+use usm_values::{Accepted, Claim, Leg, Origin, Refusal, Table, RECORD_BYTES};
 
 /// An account's holdings, how a member places them in groups, and the margins claimed.
 ///
@@ -174,28 +172,4 @@ pub(crate) fn records<T>(
             from_bytes(record).expect("fields out of range are refused")
         })
         .collect()
-}
-
-#[cfg(test)]
-mod tests {
-    use super::*;
-    use crate::accounts::{fullest, leg, placed};
-    use crate::block::{account_of, BLOCK_BYTES};
-    use crate::form::Form;
-
-    #[test]
-    fn every_account_survives_a_file() {
-        let numbers = [1, u64::from(u32::MAX), 1 << 32, 1 << 32 | 4711, 1 << 63, u64::MAX - 1, u64::MAX];
-        for account in numbers {
-            for sheet in [placed(&[leg("L60c"), leg("S50c")], &[1_000_000]), fullest()] {
-                let sheet = Sheet { account, ..sheet };
-                let file = sheet.to_file().expect("a file");
-                assert!(file.chunks(BLOCK_BYTES).all(|block| account_of(block) == account), "{account}");
-                assert_eq!(Sheet::from_file(&file), Ok(sheet.clone()));
-                assert_eq!(Sheet::with_origin(&file), Ok((sheet, Origin { form: Form::New, account })));
-            }
-        }
-        let none = placed(&[leg("L60c"), leg("S50c")], &[1_000_000]);
-        assert_eq!(Sheet::with_origin(&none.to_file().expect("a file")), Ok((none, Origin::OLD)));
-    }
 }

@@ -7,9 +7,9 @@ mod common;
 
 use std::time::Duration;
 
-use usm::accounts::{fullest, leg, placed};
-use usm::block::BLOCK_BYTES;
-use usm::model;
+use usm_kit::accounts::{fullest, leg, placed};
+use usm_kit::block::BLOCK_BYTES;
+use usm_kit::model;
 
 /// The program takes no more than this of its input.
 const LONGEST_INPUT: usize = 131_072;

@@ -4,26 +4,27 @@
 #![forbid(unsafe_code)]
 
 use std::fs;
-use std::path::{Path, PathBuf};
+use std::path::Path;
 
-use usm::accounts::{leg, placed};
-use usm::both::BOTH;
 use usm::{claim_table, leg_table, Claim, Reason, Refusal, Sheet, Table};
+use usm_kit::accounts::{leg, placed};
+use usm_kit::both::BOTH;
+use usm_kit::repository;
 
-const PAGES: [&str; 5] = [
+const PAGES: [&str; 9] = [
     "README.md",
     "docs/RULES.md",
     "docs/ARCHITECTURE.md",
+    "docs/PROMISES.md",
+    "docs/DECISIONS.md",
+    "docs/OPEN.md",
+    "docs/BENCHMARK.md",
     "host/README.md",
     "host/tests/transcript/README.md",
 ];
 
-fn root() -> PathBuf {
-    Path::new(env!("CARGO_MANIFEST_DIR")).join("..")
-}
-
 fn page(name: &str) -> String {
-    fs::read_to_string(root().join(name)).unwrap_or_else(|error| panic!("{name}: {error}"))
+    fs::read_to_string(repository().join(name)).unwrap_or_else(|error| panic!("{name}: {error}"))
 }
 
 /// The lines of the fence that opens with this word.
@@ -78,7 +79,7 @@ fn stale(page: &str, name: &str, target: &str) -> Option<String> {
     if target.contains("://") {
         return None;
     }
-    let folder = root().join(page).parent().expect("a folder").to_path_buf();
+    let folder = repository().join(page).parent().expect("a folder").to_path_buf();
     let file = folder.join(target.split('#').next().expect("a path"));
     if !file.exists() {
         return Some(format!("[{name}]({target}): there is no such file"));

@@ -8,14 +8,15 @@ use std::collections::BTreeMap;
 use std::fs;
 use std::path::{Path, PathBuf};
 
-use usm::both::{Calls, BOTH};
 use usm::{
     holdings_of_list, leg_table, list_of_holdings, play, root_table, salvage_file, sentences, text, Refusal,
     Root, Salvaged, Sheet, LONGEST_LIST,
 };
+use usm_kit::both::{Calls, BOTH};
+use usm_kit::repository;
 
 fn committed() -> PathBuf {
-    Path::new(env!("CARGO_MANIFEST_DIR")).join("../samples")
+    repository().join("samples")
 }
 
 fn files_in(folder: &Path) -> BTreeMap<String, Vec<u8>> {

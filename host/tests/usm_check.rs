@@ -6,9 +6,9 @@ mod common;
 
 use std::time::Duration;
 
-use usm::accounts::fullest;
-use usm::block::{BLOCK_BYTES, LONGEST_FILE};
-use usm::model;
+use usm_kit::accounts::fullest;
+use usm_kit::block::{BLOCK_BYTES, LONGEST_FILE};
+use usm_kit::model;
 
 /// What the program prints for an input that comes in these pieces, with a pause after each.
 fn printed(pieces: &[&[u8]], pause: Duration) -> String {

@@ -6,9 +6,10 @@ mod common;
 
 use std::time::Duration;
 
-use usm::accounts::fullest;
-use usm::block::LONGEST_FILE;
-use usm::{model, text};
+use usm::text;
+use usm_kit::accounts::fullest;
+use usm_kit::block::LONGEST_FILE;
+use usm_kit::model;
 
 /// The program prints this table, and so does the model for the same bytes.
 #[track_caller]

@@ -4,27 +4,27 @@ use mathlib.Core.Path.{_≡_}
 use mathlib.Core.Bool.{true, _&&_, and-eq-true-iff}
 use lib.Dec.{leb}
 use Rattle.records.specs.Dates.{realDate}
-use Rattle.records.specs.Legs.{mostContracts}
+use Rattle.records.specs.Limits.{mostContracts}
 use Rattle.records.specs.Order.{firstOf}
 use Rattle.records.specs.Within.{within}
 use Rattle.records.specs.declared.refusals.Fault.the-variants.{Nothing}
 use Rattle.records.proofs.PassLaws.{clear}
 use Rattle.records.proofs.TableLaws.{within-true, date-true}
-use Rattle.binaries.specs.Positions.{mostSpread, goodTerms}
+use Rattle.binaries.specs.Positions.{mostSpread, goodFields}
 use Rattle.binaries.specs.Calls.{singleChecks, pairChecks}
 use Rattle.binaries.specs.declared.positions.Position.{Position}
 
 -- what a position's margin is worked out by
-good-live : (spread expiry contracts : ℕ) → goodTerms spread expiry contracts ≡ true → (realDate expiry ≡ true) × (contracts ≤ 100000)
-unfolding goodTerms
+good-live : (spread expiry contracts : ℕ) → goodFields spread expiry contracts ≡ true → (realDate expiry ≡ true) × (contracts ≤ 100000)
+unfolding goodFields
 good-live spread expiry contracts e =
     let p = and-eq-true-iff (leb spread mostSpread && realDate expiry) (within 1 mostContracts contracts) .0 e in
     (and-eq-true-iff (leb spread mostSpread) (realDate expiry) .0 (p .0) .1, within-true 1 mostContracts contracts (p .1) .1)
 
-dated : (valuation spread expiry contracts : ℕ) → realDate valuation && goodTerms spread expiry contracts ≡ true
+dated : (valuation spread expiry contracts : ℕ) → realDate valuation && goodFields spread expiry contracts ≡ true
     → (valuation ≤ 20991231) × (realDate expiry ≡ true) × (contracts ≤ 100000)
 dated valuation spread expiry contracts e =
-    let p = and-eq-true-iff (realDate valuation) (goodTerms spread expiry contracts) .0 e in
+    let p = and-eq-true-iff (realDate valuation) (goodFields spread expiry contracts) .0 e in
     let q = good-live spread expiry contracts (p .1) in
     (date-true valuation (p .0) .1, q .0, q .1)
 

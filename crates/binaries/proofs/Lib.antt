@@ -1,8 +1,10 @@
-pub mod ChoiceLaws
-pub mod PercentageLaws
-pub mod TimeLaws
-pub mod MarginLaws
-pub mod AnswerLaws
-pub mod PairLaws
-pub mod Examples
-pub mod Unique
+-- what is promised of the definitions
+mod PercentageLaws
+mod TimeLaws
+mod MarginLaws
+mod PairLaws
+mod Examples
+mod Unique
+-- what these rest on
+mod CondLaws
+mod AnswerLaws

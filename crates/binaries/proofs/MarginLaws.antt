@@ -7,7 +7,7 @@ use Rattle.records.proofs.Measures.{only-le}
 use Rattle.binaries.specs.Percentages.{cellIn, tenthsAt, rowOf}
 use Rattle.binaries.specs.Times.{columnOf}
 use Rattle.binaries.specs.Positions.{offsets, matchedIn}
-use Rattle.binaries.specs.Margins.{perContract, marginOf}
+use Rattle.binaries.specs.Margins.{perContract, binaryMargin}
 use Rattle.binaries.specs.Demands.{ShortCostsTwice, MarginGrows, NothingRounded}
 use Rattle.binaries.specs.declared.positions.Position.{Position}
 use Rattle.binaries.specs.declared.positions.LongPosition.{LongPosition}
@@ -32,13 +32,13 @@ nothing-rounded side spread valuation expiry = omega (arith, per-contract side s
 -- ---- sides, and what makes a margin grow
 
 pub short-costs-twice : ShortCostsTwice
-unfolding marginOf
+unfolding binaryMargin
 short-costs-twice spread valuation expiry contracts =
     rw (per-contract Short spread valuation expiry, per-contract Long spread valuation expiry, short-twice (rowOf spread) (columnOf valuation expiry))
     (omega arith)
 
 pub margin-grows : MarginGrows
-unfolding marginOf
+unfolding binaryMargin
 margin-grows side valuation s t d e m n h i j =
     let r = row-few t in
     let c = column-few valuation e in
@@ -49,12 +49,12 @@ margin-grows side valuation s t d e m n h i j =
 
 module _ (side : Side) (spread valuation expiry contracts : ℕ) where
   -- what the code computes
-  pub mills-is : contracts * (1000 * tenthsAt side (rowOf spread) (columnOf valuation expiry)) ≡ marginOf side spread valuation expiry contracts
-  unfolding marginOf
+  pub mills-is : contracts * (1000 * tenthsAt side (rowOf spread) (columnOf valuation expiry)) ≡ binaryMargin side spread valuation expiry contracts
+  unfolding binaryMargin
   mills-is = ap (λ (n : ℕ). contracts * n) (sym (per-contract side spread valuation expiry))
 
-  pub margin-most : contracts ≤ 100000 → marginOf side spread valuation expiry contracts ≤ 100000 * (1000 * mostTenths side)
-  unfolding marginOf
+  pub margin-most : contracts ≤ 100000 → binaryMargin side spread valuation expiry contracts ≤ 100000 * (1000 * mostTenths side)
+  unfolding binaryMargin
   margin-most h =
       let t = tenths-most side spread valuation expiry in
       rw (per-contract side spread valuation expiry) (mul-le-mul h (omega arith))

@@ -8,8 +8,8 @@ use Rattle.records.specs.Order.{firstOf}
 use Rattle.records.specs.declared.refusals.Fault.{Fault}
 use Rattle.records.specs.declared.refusals.Fault.the-variants.{Nothing, Is}
 use Rattle.binaries.specs.Positions.{offsets, matchedIn}
-use Rattle.binaries.specs.Margins.{marginOf, marginFor, pairMargin}
-use Rattle.binaries.specs.Calls.{required, singleChecks, singleCall, pairChecks, pairCall}
+use Rattle.binaries.specs.Margins.{binaryMargin, marginFor, pairMargin}
+use Rattle.binaries.specs.Calls.{binaryAnswer, singleChecks, singleCall, pairChecks, pairCall}
 use Rattle.binaries.specs.Demands.{PairCostsNoMore, LongerLong, LongerShort, EqualPairFree, ApartKeepsBoth, SingleMost, PairMost}
 use Rattle.binaries.specs.declared.percentages.Side.{Side}
 use Rattle.binaries.specs.declared.percentages.Side.the-variants.{Long, Short}
@@ -22,7 +22,7 @@ use Rattle.binaries.proofs.AnswerLaws.{single-clear, pair-clear}
 -- ---- what a pair needs
 
 none-free : (side : Side) (valuation : ℕ) (p : Position) → marginFor side valuation p 0 ≡ 0
-unfolding marginOf
+unfolding binaryMargin
 none-free side valuation p = omega arith
 
 fewer : (side : Side) (valuation : ℕ) (p : Position) (m n : ℕ) → m ≤ n → marginFor side valuation p m ≤ marginFor side valuation p n
@@ -76,14 +76,14 @@ apart-keeps-both valuation long short o =
 
 -- ---- limits
 
-required-mills : (f : Fault) (m n : ℕ) → required f m ≡ Mills (pos n) → (f ≡ Nothing) × (m ≡ n)
+required-mills : (f : Fault) (m n : ℕ) → binaryAnswer f m ≡ Mills (pos n) → (f ≡ Nothing) × (m ≡ n)
 required-mills Nothing m n e = (refl, cc)
 required-mills (Is r) m n e = let z : _≡_ {A = ℕ} 0 1 = cc in absurd (omega arith)
 
 pub single-most : SingleMost
 unfolding singleCall
 single-most side spread valuation expiry contracts n e =
-    let r = required-mills (firstOf (singleChecks spread valuation expiry contracts)) (marginOf side spread valuation expiry contracts) n e in
+    let r = required-mills (firstOf (singleChecks spread valuation expiry contracts)) (binaryMargin side spread valuation expiry contracts) n e in
     let few = single-clear spread valuation expiry contracts (r .0) in
     omega (arith, margin-most side spread valuation expiry contracts (few .2), side-most side, r .1)
 

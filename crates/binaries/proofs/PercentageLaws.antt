@@ -12,7 +12,7 @@ use Rattle.binaries.specs.Percentages.{longTenths, shortTenths, tenthsOf
 use Rattle.binaries.specs.Demands.{ShortTwice}
 use Rattle.binaries.specs.declared.percentages.Side.{Side}
 use Rattle.binaries.specs.declared.percentages.Side.the-variants.{Long, Short}
-use Rattle.binaries.proofs.ChoiceLaws.{cond-most, cond-least, step-grows}
+use Rattle.binaries.proofs.CondLaws.{cond-most, cond-least, step-grows}
 
 -- ---- short is twice long
 

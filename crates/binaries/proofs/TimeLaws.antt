@@ -12,7 +12,7 @@ use Rattle.records.proofs.SameLaws.{bool-eq}
 use Rattle.records.proofs.TableLaws.{within-true}
 use Rattle.binaries.specs.Times.{yearOf, sameDay, isMissing, twentyEighth, yearEnd, columnOf}
 use Rattle.binaries.specs.Demands.{SameMonthAndDay, LeapDayEnds, MissingDayUnseen}
-use Rattle.binaries.proofs.ChoiceLaws.{cond-most, cond-least, step-grows}
+use Rattle.binaries.proofs.CondLaws.{cond-most, cond-least, step-grows}
 
 -- no date after the last is real
 pub late-date : (date : ℕ) → 20991231 < date → realDate date ≡ false

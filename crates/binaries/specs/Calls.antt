@@ -9,27 +9,27 @@ use Rattle.records.specs.Dates.{realDate}
 use Rattle.records.specs.Order.{Check, ask, firstOf}
 use Rattle.records.specs.declared.refusals.Fault.{Fault}
 use Rattle.records.specs.declared.refusals.Fault.the-variants.{Nothing, Is}
-use Rattle.binaries.specs.Positions.{goodTerms, goodPosition}
-use Rattle.binaries.specs.Margins.{marginOf, pairMargin}
+use Rattle.binaries.specs.Positions.{goodFields, goodPosition}
+use Rattle.binaries.specs.Margins.{binaryMargin, pairMargin}
 use Rattle.binaries.specs.declared.percentages.Side.{Side}
 use Rattle.binaries.specs.declared.positions.Position.{Position}
 use Rattle.binaries.specs.declared.positions.LongPosition.{LongPosition}
 use Rattle.binaries.specs.declared.calls.Required.{Required}
 use Rattle.binaries.specs.declared.calls.Required.the-variants.{Mills, Refused}
 
-abbrev pub required : Fault → ℕ → Required
-required Nothing mills = Mills (pos mills)
-required (Is r) mills = Refused r
+abbrev pub binaryAnswer : Fault → ℕ → Required
+binaryAnswer Nothing mills = Mills (pos mills)
+binaryAnswer (Is r) mills = Refused r
 
 -- ---- a position by itself
 
 unfoldable pub singleChecks : ℕ → ℕ → ℕ → ℕ → List Check
 singleChecks spread valuation expiry contracts =
-    ask (realDate valuation && goodTerms spread expiry contracts) 4 0 0 ∷ ask (leb valuation expiry) 25 0 0 ∷ []
+    ask (realDate valuation && goodFields spread expiry contracts) 4 0 0 ∷ ask (leb valuation expiry) 25 0 0 ∷ []
 
 unfoldable pub singleCall : Side → ℕ → ℕ → ℕ → ℕ → Required
 singleCall side spread valuation expiry contracts =
-    required (firstOf (singleChecks spread valuation expiry contracts)) (marginOf side spread valuation expiry contracts)
+    binaryAnswer (firstOf (singleChecks spread valuation expiry contracts)) (binaryMargin side spread valuation expiry contracts)
 
 -- ---- a pair
 
@@ -44,4 +44,4 @@ pairChecks valuation long short =
 
 unfoldable pub pairCall : ℕ → LongPosition → Position → Required
 pairCall valuation long short =
-    required (firstOf (pairChecks valuation (long .position) short)) (pairMargin valuation long short)
+    binaryAnswer (firstOf (pairChecks valuation (long .position) short)) (pairMargin valuation long short)

@@ -9,7 +9,7 @@ use Rattle.records.specs.Dates.{realDate}
 use Rattle.binaries.specs.Percentages.{tenthsAt, rowOf}
 use Rattle.binaries.specs.Times.{yearOf, monthAndDay, sameDay, twentyEighth, yearEnd, columnOf}
 use Rattle.binaries.specs.Positions.{offsets}
-use Rattle.binaries.specs.Margins.{settlement, perContract, marginOf, marginFor, pairMargin}
+use Rattle.binaries.specs.Margins.{settlement, perContract, binaryMargin, marginFor, pairMargin}
 use Rattle.binaries.specs.Calls.{singleCall, pairCall}
 use Rattle.binaries.specs.declared.percentages.Side.{Side}
 use Rattle.binaries.specs.declared.percentages.Side.the-variants.{Long, Short}
@@ -25,13 +25,13 @@ ShortTwice = (row column : ℕ) → tenthsAt Short row column ≡ 2 * tenthsAt L
 
 -- so that a short position needs twice what a long one does
 abbrev pub ShortCostsTwice : Type 0
-ShortCostsTwice = (spread valuation expiry contracts : ℕ) → marginOf Short spread valuation expiry contracts ≡ 2 * marginOf Long spread valuation expiry contracts
+ShortCostsTwice = (spread valuation expiry contracts : ℕ) → binaryMargin Short spread valuation expiry contracts ≡ 2 * binaryMargin Long spread valuation expiry contracts
 
 -- 'The percentage scales up as the credit default swap spread .. and/or the time until expiration increase': a wider spread, a later
 -- expiry and more contracts never need less
 abbrev pub MarginGrows : Type 0
 MarginGrows = (side : Side) (valuation s t d e m n : ℕ) → s ≤ t → d ≤ e → m ≤ n
-    → marginOf side s valuation d m ≤ marginOf side t valuation e n
+    → binaryMargin side s valuation d m ≤ binaryMargin side t valuation e n
 
 -- the percentage of the settlement is a whole number of mills: nothing is rounded
 abbrev pub NothingRounded : Type 0

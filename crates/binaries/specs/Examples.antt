@@ -17,8 +17,8 @@ abbrev pub position : ℕ → ℕ → ℕ → ℕ → Position
 position reference spread expiry contracts =
     record { reference = reference; spread = spread; expiry = expiry; contracts = contracts }
 
-abbrev pub bought : Bool → Position → LongPosition
-bought paid p = record { position = p; paid = paid }
+abbrev pub longPosition : Bool → Position → LongPosition
+longPosition paid p = record { position = p; paid = paid }
 
 abbrev pub mills : ℕ → Required
 mills n = Mills (pos n)
@@ -27,15 +27,15 @@ abbrev pub refused : ℕ → ℕ → Required
 refused number place = Refused (refuse number 0 place)
 
 -- an answer of a call, and what it should be
-pub record Row : Type 0 where
+pub record Example : Type 0 where
   pub call : Required
   pub answer : Required
 
-abbrev pub row : Required → Required → Row
-row call answer = record { call = call; answer = answer }
+abbrev pub example : Required → Required → Example
+example call answer = record { call = call; answer = answer }
 
-abbrev pub Holds : Row → Type 0
-Holds r = r .call ≡ r .answer
+abbrev pub Shows : Example → Type 0
+Shows r = r .call ≡ r .answer
 
 -- valued on 2 March 2011, the circular's date, unless said
 abbrev pub day : ℕ
@@ -45,46 +45,46 @@ day = 20110302
 abbrev pub plain : ℕ → Position
 plain contracts = position 7 250 20130302 contracts
 
-unfoldable pub singles : List Row
+unfoldable pub singles : List Example
 singles =
     -- a year to the day, below the first edge: 0.5%
-    row (singleCall Long 99 day 20120302 1) (mills 5_000)
+    example (singleCall Long 99 day 20120302 1) (mills 5_000)
     -- a value on an edge takes the higher row
-    ∷ row (singleCall Long 100 day 20120302 1) (mills 10_000)
+    ∷ example (singleCall Long 100 day 20120302 1) (mills 10_000)
     -- a day more than a year
-    ∷ row (singleCall Long 99 day 20120303 1) (mills 10_000)
+    ∷ example (singleCall Long 99 day 20120303 1) (mills 10_000)
     -- the last cell of the short table, and the one before it in its row
-    ∷ row (singleCall Short 700 day 20180303 1) (mills 300_000)
-    ∷ row (singleCall Short 100_000 day 20180302 100_000) (mills 25_000_000_000)
+    ∷ example (singleCall Short 700 day 20180303 1) (mills 300_000)
+    ∷ example (singleCall Short 100_000 day 20180302 100_000) (mills 25_000_000_000)
     -- from 29 February: the year ends on the 28th
-    ∷ row (singleCall Long 0 20120229 20130228 1) (mills 5_000)
-    ∷ row (singleCall Long 0 20120229 20130301 1) (mills 10_000)
+    ∷ example (singleCall Long 0 20120229 20130228 1) (mills 5_000)
+    ∷ example (singleCall Long 0 20120229 20130301 1) (mills 10_000)
     -- from 28 February to the 29th of a leap year is more than a year
-    ∷ row (singleCall Long 0 20110228 20120229 1) (mills 10_000)
+    ∷ example (singleCall Long 0 20110228 20120229 1) (mills 10_000)
     -- an option that expires on the valuation date
-    ∷ row (singleCall Short 0 day day 1) (mills 10_000)
-    ∷ row (singleCall Short 0 day 20110301 1) (refused 25 0)
+    ∷ example (singleCall Short 0 day day 1) (mills 10_000)
+    ∷ example (singleCall Short 0 day 20110301 1) (refused 25 0)
     -- a field before the expiry
-    ∷ row (singleCall Short 100_001 day 20110301 1) (refused 4 0)
-    ∷ row (singleCall Short 0 20110229 20110301 1) (refused 4 0)
-    ∷ row (singleCall Short 0 day 20120302 100_001) (refused 4 0)
+    ∷ example (singleCall Short 100_001 day 20110301 1) (refused 4 0)
+    ∷ example (singleCall Short 0 20110229 20110301 1) (refused 4 0)
+    ∷ example (singleCall Short 0 day 20120302 100_001) (refused 4 0)
     ∷ []
 
-unfoldable pub pairs : List Row
+unfoldable pub pairs : List Example
 pairs =
     -- as many long as short
-    row (pairCall day (bought true (plain 3)) (plain 3)) (mills 0)
+    example (pairCall day (longPosition true (plain 3)) (plain 3)) (mills 0)
     -- two of the long left, two of the short left
-    ∷ row (pairCall day (bought true (plain 5)) (plain 3)) (mills 50_000)
-    ∷ row (pairCall day (bought true (plain 3)) (plain 5)) (mills 100_000)
+    ∷ example (pairCall day (longPosition true (plain 5)) (plain 3)) (mills 50_000)
+    ∷ example (pairCall day (longPosition true (plain 3)) (plain 5)) (mills 100_000)
     -- not paid in full; another obligation; expiring first
-    ∷ row (pairCall day (bought false (plain 3)) (plain 3)) (mills 225_000)
-    ∷ row (pairCall day (bought true (position 8 250 20130302 3)) (plain 3)) (mills 225_000)
-    ∷ row (pairCall day (bought true (position 7 250 20130301 3)) (plain 3)) (mills 225_000)
+    ∷ example (pairCall day (longPosition false (plain 3)) (plain 3)) (mills 225_000)
+    ∷ example (pairCall day (longPosition true (position 8 250 20130302 3)) (plain 3)) (mills 225_000)
+    ∷ example (pairCall day (longPosition true (position 7 250 20130301 3)) (plain 3)) (mills 225_000)
     -- a field of the short before an expiry of the long
-    ∷ row (pairCall day (bought true (position 7 250 20110301 3)) (plain 0)) (refused 4 1)
-    ∷ row (pairCall 20110229 (bought true (plain 3)) (plain 0)) (refused 4 0)
+    ∷ example (pairCall day (longPosition true (position 7 250 20110301 3)) (plain 0)) (refused 4 1)
+    ∷ example (pairCall 20110229 (longPosition true (plain 3)) (plain 0)) (refused 4 0)
     -- both expired, then only the short
-    ∷ row (pairCall day (bought true (position 7 250 20110301 3)) (position 7 250 20110301 3)) (refused 25 0)
-    ∷ row (pairCall day (bought true (plain 3)) (position 7 250 20110301 3)) (refused 25 1)
+    ∷ example (pairCall day (longPosition true (position 7 250 20110301 3)) (position 7 250 20110301 3)) (refused 25 0)
+    ∷ example (pairCall day (longPosition true (plain 3)) (position 7 250 20110301 3)) (refused 25 1)
     ∷ []

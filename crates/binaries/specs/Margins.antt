@@ -19,12 +19,12 @@ tenthsOfPercent tenths amount = amount * tenths / 1000
 unfoldable pub perContract : Side → ℕ → ℕ → ℕ → ℕ
 perContract side spread valuation expiry = tenthsOfPercent (tenthsAt side (rowOf spread) (columnOf valuation expiry)) settlement
 
-unfoldable pub marginOf : Side → ℕ → ℕ → ℕ → ℕ → ℕ
-marginOf side spread valuation expiry contracts = contracts * perContract side spread valuation expiry
+unfoldable pub binaryMargin : Side → ℕ → ℕ → ℕ → ℕ → ℕ
+binaryMargin side spread valuation expiry contracts = contracts * perContract side spread valuation expiry
 
 -- of so many contracts of a position
 abbrev pub marginFor : Side → ℕ → Position → ℕ → ℕ
-marginFor side valuation p contracts = marginOf side (p .spread) valuation (p .expiry) contracts
+marginFor side valuation p contracts = binaryMargin side (p .spread) valuation (p .expiry) contracts
 
 -- 'the smaller count is matched and needs no margin; the rest keeps its percentage. A pair answers the sum'
 unfoldable pub pairMargin : ℕ → LongPosition → Position → ℕ

@@ -3,7 +3,7 @@ use Prim.Native.Nat.{ℕ, min}
 use mathlib.Core.Bool.{Bool, _&&_}
 use lib.Dec.{eqb, leb}
 use Rattle.records.specs.Dates.{realDate}
-use Rattle.records.specs.Legs.{mostContracts}
+use Rattle.records.specs.Limits.{mostContracts}
 use Rattle.records.specs.Lists.{only}
 use Rattle.records.specs.Within.{within}
 use Rattle.binaries.specs.declared.positions.Position.{Position}
@@ -14,11 +14,11 @@ abbrev pub mostSpread : ℕ
 mostSpread = 100000
 
 -- 'Spread is 0 to 100,000, contracts 1 to 100,000', and the expiry a real date
-unfoldable pub goodTerms : ℕ → ℕ → ℕ → Bool
-goodTerms spread expiry contracts = leb spread mostSpread && realDate expiry && within 1 mostContracts contracts
+unfoldable pub goodFields : ℕ → ℕ → ℕ → Bool
+goodFields spread expiry contracts = leb spread mostSpread && realDate expiry && within 1 mostContracts contracts
 
 abbrev pub goodPosition : Position → Bool
-goodPosition p = goodTerms (p .spread) (p .expiry) (p .contracts)
+goodPosition p = goodFields (p .spread) (p .expiry) (p .contracts)
 
 -- 'on the same reference obligation, the long paid in full and not expiring first'
 unfoldable pub offsets : LongPosition → Position → Bool

@@ -3,7 +3,7 @@ ghost use mathlib.Core.Path.{_≡_};
 ghost use mathlib.Core.Bool.{true};
 ghost use Prim.Native.Nat.{_≤_};
 ghost use Rattle.records.specs.Dates.{realDate};
-ghost use Rattle.binaries.specs.Margins.{marginOf, pairMargin};
+ghost use Rattle.binaries.specs.Margins.{binaryMargin, pairMargin};
 use crate::percentages::Side;
 use crate::percentages::row_of;
 use crate::percentages::tenths_at;
@@ -18,7 +18,7 @@ const MILLS_A_TENTH: u64 = 1000;
 // In mills.
 pub(crate) fn margin_of(side: Side, spread: u64, valuation: u64, expiry: u64, contracts: u64) -> u64
     requires { ⌜ (valuation ≤ 20991231) × (realDate expiry ≡ true) × (contracts ≤ 100000) ⌝ }
-    ensures { λ r. ⌜ (r ≡ marginOf side spread valuation expiry contracts) × (r ≤ 30000000000) ⌝ }
+    ensures { λ r. ⌜ (r ≡ binaryMargin side spread valuation expiry contracts) × (r ≤ 30000000000) ⌝ }
 {
     let tenths = tenths_at(side, row_of(spread), column_of(valuation, expiry));
     contracts * (MILLS_A_TENTH * (tenths as u64))

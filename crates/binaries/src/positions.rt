@@ -1,7 +1,7 @@
 // A position in one binary option, and of a long and a short how many contracts are matched.
 ghost use mathlib.Core.Path.{_≡_};
 ghost use Prim.Native.Nat.{min};
-ghost use Rattle.binaries.specs.Positions.{goodTerms, offsets, matchedIn};
+ghost use Rattle.binaries.specs.Positions.{goodFields, offsets, matchedIn};
 use crate::times::is_date;
 use records::MOST_CONTRACTS;
 
@@ -25,7 +25,7 @@ const MOST_SPREAD: u64 = 100000;
 
 // Whether each field is in its range.
 pub(crate) fn good_terms(spread: u64, expiry: u64, contracts: u64) -> bool
-    ensures { λ r. ⌜ r ≡ goodTerms spread expiry contracts ⌝ }
+    ensures { λ r. ⌜ r ≡ goodFields spread expiry contracts ⌝ }
 {
     (spread <= MOST_SPREAD)
         & is_date(expiry)

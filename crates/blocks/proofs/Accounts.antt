@@ -20,10 +20,9 @@ use Rattle.records.proofs.PassLaws.{Pass, unclear, pass-left, pass-right}
 use Rattle.records.proofs.PutLaws.{put-front}
 use Rattle.blocks.specs.Block.{sumsAgree, shaped, numberFits, accountFits, originOf}
 use Rattle.blocks.specs.File.{wholeFile, blocksOf, tablesIn, originIn, frameIn, follows, withinLimits, blockChecks, blocksChecks}
-use Rattle.blocks.specs.Writer.{filled}
-use Rattle.blocks.specs.Reader.{readOf}
+use Rattle.blocks.specs.Reader.{readCall}
 use Rattle.blocks.specs.Moves.{movedTo}
-use Rattle.blocks.specs.Steps.{scanOf}
+use Rattle.blocks.specs.Steps.Scan.{scanOf}
 use Rattle.blocks.specs.RoundTrips.{Reads}
 use Rattle.blocks.specs.Accounts.{OneAccount, Begins, JoinedRefused, JoinedElsewhere, FormsAlike, MovedAlike}
 use Rattle.blocks.specs.declared.forms.Origin.{Origin}
@@ -33,7 +32,7 @@ use Rattle.blocks.proofs.BlockLaws.{origin-is, number-is}
 use Rattle.blocks.proofs.FileLaws.{Passed, block-passed, whole-file, earlier, length-earlier, blocksFrom, blocks-all, blocks-step}
 use Rattle.blocks.proofs.ScanLaws.{by-tests}
 use Rattle.blocks.proofs.GoodBlocks.{first-passed, read-good, named-back}
-use Rattle.blocks.proofs.ReadLaws.{judge-block, read-refused}
+use Rattle.blocks.proofs.ReadLaws.{scan-whole, judge-scan, read-refused}
 use Rattle.blocks.proofs.FlatLaws.{length-file}
 use Rattle.blocks.proofs.WrittenThenRead.{written-reads-back}
 use Rattle.blocks.proofs.ReadThenWritten.{settled-in, writes-as, read-writes-back}
@@ -68,11 +67,11 @@ one-account f r =
 
 -- what the first fault of the blocks makes the reader answer
 refused-at : (f : List ℕ) (r : Refusal) → wholeFile (length f) ≡ true → firstOf (blocksChecks (frameIn f) [] (blocksOf f)) ≡ Is r
-    → (h p c : ℕ) → readOf f h p c ≡ Refused r
+    → (h p c : ℕ) → readCall f h p c ≡ Refused r
 unfolding scanOf
 refused-at f r w e h p c =
     let s : scanOf f ≡ Refused r = rw e in
-    read-refused f h p c r (judge-block f w r s)
+    read-refused f h p c r (judge-scan f r (sym (scan-whole f w) ∙ s))
 
 -- the checks of a file whose first k blocks are those of one that passes come down to those from block k on
 module _ (F : Frame) (one joined : List ℕ) (n : length joined / 512 ≡ length one / 512) where
@@ -128,7 +127,7 @@ module _ (one joined : List ℕ) (r : Reads one) (len : length joined ≡ length
   blocks-same = ap (λ (m : ℕ). m / 512) len
 
   joint-fault : (x : Refusal) → firstOf (blockChecks (frameIn one) (earlier one k) (chunkAt 512 joined k)) ≡ Is x
-      → (h p c : ℕ) → readOf joined h p c ≡ Refused x
+      → (h p c : ℕ) → readCall joined h p c ≡ Refused x
   unfolding blocksChecks
   joint-fault x e =
       let F = frameIn one in
@@ -185,7 +184,6 @@ pub forms-alike : FormsAlike
 forms-alike o q t w v = written-reads-back o t w .1 ∙ sym (written-reads-back q t v .1)
 
 pub moved-alike : MovedAlike
-unfolding filled
 moved-alike from to file out n a x =
     let m = move-wrote from to file (length out) n x in
     let t = tablesIn file in

@@ -15,12 +15,11 @@ use Rattle.records.specs.declared.refusals.Fault.the-variants.{Nothing, Is}
 use Rattle.records.proofs.OrderLaws.{first-then, first-stop}
 use Rattle.blocks.specs.Forms.{named}
 use Rattle.blocks.specs.Block.{originOf, sumsAgree, shaped}
-use Rattle.blocks.specs.File.{blocksOf, tablesOf, tablesIn}
-use Rattle.blocks.specs.Alone.{ownTables, aloneChecks, aloneOf}
-use Rattle.blocks.specs.Steps.{Sized}
+use Rattle.blocks.specs.File.{blocksOf, tablesOf, tablesIn, fieldsOf}
+use Rattle.blocks.specs.Alone.{ownTables, aloneChecks, aloneCall}
+use Rattle.blocks.specs.Steps.Bounds.{Sized}
 use Rattle.blocks.specs.declared.answers.Alone.the-variants.{Sound, Refused}
 use Rattle.blocks.proofs.BlockLaws.{shape-is}
-use Rattle.blocks.proofs.FileLaws.{recordChecks}
 
 -- ---- a block as a file of its own
 
@@ -40,39 +39,39 @@ shaped-sized b e s = record { size = e; few = shape-is (originOf b .form) b s .h
 
 -- ---- its refusals
 
-pub alone-torn : (b : List ℕ) → eqb (length b) 512 ≡ false → aloneOf b ≡ Refused (refuse 1 0 0)
-unfolding aloneOf aloneChecks firstOf
+pub alone-torn : (b : List ℕ) → eqb (length b) 512 ≡ false → aloneCall b ≡ Refused (refuse 1 0 0)
+unfolding aloneCall aloneChecks firstOf
 alone-torn b e = rw e
 
 module _ (b : List ℕ) (w : length b ≡ 512) where
   whole : eqb (length b) 512 ≡ true
   whole = eq-eqb (length b) 512 w
 
-  pub alone-2 : sumsAgree b ≡ false → aloneOf b ≡ Refused (refuse 2 0 0)
-  unfolding aloneOf aloneChecks firstOf
+  pub alone-2 : sumsAgree b ≡ false → aloneCall b ≡ Refused (refuse 2 0 0)
+  unfolding aloneCall aloneChecks firstOf
   alone-2 e = rw (whole, e)
 
   module _ (s : sumsAgree b ≡ true) where
-    pub alone-3 : shaped (originOf b .form) b ≡ false → aloneOf b ≡ Refused (refuse 3 0 0)
-    unfolding aloneOf aloneChecks firstOf
+    pub alone-3 : shaped (originOf b .form) b ≡ false → aloneCall b ≡ Refused (refuse 3 0 0)
+    unfolding aloneCall aloneChecks firstOf
     alone-3 e = rw (whole, s, e)
 
     module _ (h : shaped (originOf b .form) b ≡ true) where
-      pub alone-4 : (r : Refusal) → firstOf (recordChecks (ownTables b)) ≡ Is r → aloneOf b ≡ Refused r
-      unfolding aloneOf aloneChecks firstOf
+      pub alone-4 : (r : Refusal) → firstOf (fieldsOf (ownTables b)) ≡ Is r → aloneCall b ≡ Refused r
+      unfolding aloneCall aloneChecks firstOf
       alone-4 r e =
           let last = ask (named (originOf b .form) (originOf b .account)) 20 0 0 ∷ [] in
-          rw (whole, s, h, first-stop (recordChecks (ownTables b)) last r e)
+          rw (whole, s, h, first-stop (fieldsOf (ownTables b)) last r e)
 
-      module _ (f : firstOf (recordChecks (ownTables b)) ≡ Nothing) where
-        pub alone-20 : named (originOf b .form) (originOf b .account) ≡ false → aloneOf b ≡ Refused (refuse 20 0 0)
-        unfolding aloneOf aloneChecks firstOf
+      module _ (f : firstOf (fieldsOf (ownTables b)) ≡ Nothing) where
+        pub alone-20 : named (originOf b .form) (originOf b .account) ≡ false → aloneCall b ≡ Refused (refuse 20 0 0)
+        unfolding aloneCall aloneChecks firstOf
         alone-20 e =
             let last = ask (named (originOf b .form) (originOf b .account)) 20 0 0 ∷ [] in
-            rw (whole, s, h, first-then (recordChecks (ownTables b)) last f, e)
+            rw (whole, s, h, first-then (fieldsOf (ownTables b)) last f, e)
 
-        pub alone-sound : named (originOf b .form) (originOf b .account) ≡ true → aloneOf b ≡ Sound (originOf b)
-        unfolding aloneOf aloneChecks firstOf
+        pub alone-sound : named (originOf b .form) (originOf b .account) ≡ true → aloneCall b ≡ Sound (originOf b)
+        unfolding aloneCall aloneChecks firstOf
         alone-sound e =
             let last = ask (named (originOf b .form) (originOf b .account)) 20 0 0 ∷ [] in
-            rw (whole, s, h, first-then (recordChecks (ownTables b)) last f, e)
+            rw (whole, s, h, first-then (fieldsOf (ownTables b)) last f, e)

@@ -5,8 +5,6 @@ use native.Mathlib.Omega.{arith}
 use lib.ListN.{length}
 use Rattle.records.proofs.PutLaws.{put-past}
 use Rattle.blocks.specs.File.{tableOf, tablesIn, fileOf}
-use Rattle.blocks.specs.Writer.{filled}
-use Rattle.blocks.specs.Reader.{leaves}
 use Rattle.blocks.specs.Moves.{movedTo}
 use Rattle.blocks.specs.Demands.{RefusedReadsNothing, RefusedWritesNothing, RefusedMovesNothing, PastRecordsStays, PastCopyStays, PastFileStays, PastMovedStays}
 use Rattle.blocks.proofs.ReadLaws.{read-read, copied-room, copied-short}
@@ -14,19 +12,15 @@ use Rattle.blocks.proofs.WriteLaws.{write-wrote}
 use Rattle.blocks.proofs.MoveLaws.{move-wrote}
 
 refused-reads-nothing : RefusedReadsNothing
-unfolding leaves
 refused-reads-nothing file h p c r e kind lent = rw e
 
 refused-writes-nothing : RefusedWritesNothing
-unfolding filled
 refused-writes-nothing o t out r e = rw e
 
 refused-moves-nothing : RefusedMovesNothing
-unfolding filled
 refused-moves-nothing from to file out r e = rw e
 
 past-records-stays : PastRecordsStays
-unfolding leaves
 past-records-stays file h p c n o e =
     let r = read-read file h p c n o e in
     (sym (r .1), sym (r .2), λ kind lent. rw e (put-past lent (tableOf kind (tablesIn file))))
@@ -40,9 +34,7 @@ past-copy-stays kind file lent =
     ]
 
 past-file-stays : PastFileStays
-unfolding filled
 past-file-stays o t out n e = rw (e, ← write-wrote o t (length out) n e .1) (put-past out (fileOf o t))
 
 past-moved-stays : PastMovedStays
-unfolding filled
 past-moved-stays from to file out n e = rw (e, ← move-wrote from to file (length out) n e .3) (put-past out (movedTo to file))

@@ -11,10 +11,10 @@ use Rattle.records.specs.declared.tables.Kind.the-variants.{Holdings, Placement
 use Rattle.records.proofs.ChunkLaws.{records-append}
 use Rattle.records.proofs.ListLaws.{all-append}
 use Rattle.records.proofs.PassLaws.{Pass, pass-left, pass-right, pass-both, pass-each, each-pass}
-use Rattle.blocks.specs.File.{Tables, tableOf, countAs, recordsAs, joined, tablesOf}
+use Rattle.blocks.specs.File.{Tables, tableOf, countAs, recordsAs, joined, tablesOf, fieldsOf}
 use Rattle.blocks.specs.Alone.{ownTables}
-use Rattle.blocks.specs.Steps.{Sized}
-use Rattle.blocks.proofs.FileLaws.{recordChecks, length-recordsAs}
+use Rattle.blocks.specs.Steps.Bounds.{Sized}
+use Rattle.blocks.proofs.FileLaws.{length-recordsAs}
 
 module _ {A : Type 0} (P : A → Type 0) where
   pub all-left : (a b : List A) → All P (a ++ b) → All P a
@@ -28,7 +28,7 @@ module _ {A : Type 0} (P : A → Type 0) where
 abbrev pub GoodRecords : Kind → List ℕ → Type 0
 GoodRecords kind table = All (λ x. goodRecord kind x ≡ true) (recordsOf table)
 
-pub pass-good : (t : Tables) → Pass (recordChecks t) → (kind : Kind) → GoodRecords kind (tableOf kind t)
+pub pass-good : (t : Tables) → Pass (fieldsOf t) → (kind : Kind) → GoodRecords kind (tableOf kind t)
 unfolding fieldsChecks fieldChecks
 pass-good t p Holdings = pass-each (goodRecord Holdings) 4 (tableNumber Holdings) 0 (recordsOf (t .holdings)) (pass-left (fieldChecks Holdings (t .holdings)) _ p)
 pass-good t p Placement =
@@ -38,7 +38,7 @@ pass-good t p Claims =
     pass-each (goodRecord Claims) 4 (tableNumber Claims) 0 (recordsOf (t .claims))
     (pass-right (fieldChecks Placement (t .placement)) _ (pass-right (fieldChecks Holdings (t .holdings)) _ p))
 
-pub good-pass : (t : Tables) → ((kind : Kind) → GoodRecords kind (tableOf kind t)) → Pass (recordChecks t)
+pub good-pass : (t : Tables) → ((kind : Kind) → GoodRecords kind (tableOf kind t)) → Pass (fieldsOf t)
 unfolding fieldsChecks fieldChecks
 good-pass t g =
     let one : (kind : Kind) → Pass (fieldChecks kind (tableOf kind t)) =

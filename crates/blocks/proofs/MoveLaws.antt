@@ -13,10 +13,10 @@ use Rattle.records.proofs.OrderLaws.{first-then, first-stop}
 use Rattle.records.proofs.PassLaws.{clear, unclear, pass-left, pass-right}
 use Rattle.blocks.specs.Forms.{named, sameForm}
 use Rattle.blocks.specs.File.{wholeFile, tablesIn, originIn}
-use Rattle.blocks.specs.Writer.{writeChecks, writeRoom, writeOf}
-use Rattle.blocks.specs.Reader.{readChecks, readOf}
-use Rattle.blocks.specs.Steps.{mostBytes}
-use Rattle.blocks.specs.Moves.{movedTo, moveChecks, moveOf}
+use Rattle.blocks.specs.Writer.{writeChecks, writeRoom, writeCall}
+use Rattle.blocks.specs.Reader.{readChecks, readCall}
+use Rattle.blocks.specs.Steps.Bounds.{mostTableBytes}
+use Rattle.blocks.specs.Moves.{movedTo, moveChecks, moveCall}
 use Rattle.blocks.specs.declared.forms.Form.{Form}
 use Rattle.blocks.specs.declared.forms.Origin.{Origin}
 use Rattle.blocks.specs.declared.answers.Reading.the-variants.{Refused as Refused-reading}
@@ -27,12 +27,12 @@ use Rattle.blocks.proofs.ReadThenWritten.{writes-as}
 use Rattle.blocks.proofs.WriteLaws.{writing-wrote}
 
 module _ (from : Form) (to : Origin) (file : List ℕ) (room : ℕ) where
-  pub move-1 : wholeFile (length file) ≡ false → moveOf from to file room ≡ Refused (refuse 1 0 0)
-  unfolding moveOf moveChecks firstOf
+  pub move-1 : wholeFile (length file) ≡ false → moveCall from to file room ≡ Refused (refuse 1 0 0)
+  unfolding moveCall moveChecks firstOf
   move-1 e = rw e
 
-  pub move-20 : wholeFile (length file) ≡ true → named (to .form) (to .account) ≡ false → moveOf from to file room ≡ Refused (refuse 20 0 0)
-  unfolding moveOf moveChecks firstOf
+  pub move-20 : wholeFile (length file) ≡ true → named (to .form) (to .account) ≡ false → moveCall from to file room ≡ Refused (refuse 20 0 0)
+  unfolding moveCall moveChecks firstOf
   move-20 w e = rw (w, e)
 
   -- what is asked at the end: the form, and the room
@@ -44,17 +44,17 @@ module _ (from : Form) (to : Origin) (file : List ℕ) (room : ℕ) where
     unfolding moveChecks firstOf
     after = rw (w, k, append-assoc (readChecks file) (ask (sameForm (originIn file .form) from) 3 0 0 ∷ []) (writeRoom (length (movedTo to file)) room))
 
-    pub move-refused : (r : Refusal) → firstOf (readChecks file) ≡ Is r → moveOf from to file room ≡ Refused r
-    unfolding moveOf
+    pub move-refused : (r : Refusal) → firstOf (readChecks file) ≡ Is r → moveCall from to file room ≡ Refused r
+    unfolding moveCall
     move-refused r e = rw (after, first-stop (readChecks file) ending r e)
 
     module _ (e : firstOf (readChecks file) ≡ Nothing) where
-      pub move-3 : sameForm (originIn file .form) from ≡ false → moveOf from to file room ≡ Refused (refuse 3 0 0)
-      unfolding moveOf firstOf
+      pub move-3 : sameForm (originIn file .form) from ≡ false → moveCall from to file room ≡ Refused (refuse 3 0 0)
+      unfolding moveCall firstOf
       move-3 h = rw (after, first-then (readChecks file) ending e, h)
 
-      pub move-written : sameForm (originIn file .form) from ≡ true → moveOf from to file room ≡ writeOf to (tablesIn file) room
-      unfolding moveOf writeOf firstOf
+      pub move-written : sameForm (originIn file .form) from ≡ true → moveCall from to file room ≡ writeCall to (tablesIn file) room
+      unfolding moveCall writeCall firstOf
       move-written h =
           rw (
             after,
@@ -64,10 +64,10 @@ module _ (from : Form) (to : Origin) (file : List ℕ) (room : ℕ) where
           )
 
   -- what was moved had no refusal
-  pub move-wrote : (n : ℕ) → moveOf from to file room ≡ Wrote n
+  pub move-wrote : (n : ℕ) → moveCall from to file room ≡ Wrote n
       → (named (to .form) (to .account) ≡ true) × (firstOf (readChecks file) ≡ Nothing) × (sameForm (originIn file .form) from ≡ true)
       × (length (movedTo to file) ≡ n)
-  unfolding moveOf moveChecks
+  unfolding moveCall moveChecks
   move-wrote n e =
       let last = writeRoom (length (movedTo to file)) room in
       let form = ask (sameForm (originIn file .form) from) 3 0 0 ∷ [] in
@@ -78,7 +78,7 @@ module _ (from : Form) (to : Origin) (file : List ℕ) (room : ℕ) where
 -- ---- by the reader's answer for tables that have room for every sheet
 
 pub move-unread : (from : Form) (to : Origin) (file : List ℕ) (room : ℕ) → wholeFile (length file) ≡ true → named (to .form) (to .account) ≡ true
-    → (r : Refusal) → readOf file (mostBytes Holdings) (mostBytes Placement) (mostBytes Claims) ≡ Refused-reading r → moveOf from to file room ≡ Refused r
+    → (r : Refusal) → readCall file (mostTableBytes Holdings) (mostTableBytes Placement) (mostTableBytes Claims) ≡ Refused-reading r → moveCall from to file room ≡ Refused r
 move-unread from to file room w k r e =
     move-refused from to file room w k r
-    (judged-refused file r (sym (read-roomy file (mostBytes Holdings) (mostBytes Placement) (mostBytes Claims) (omega arith) (omega arith) (omega arith)) ∙ e))
+    (judged-refused file r (sym (read-roomy file (mostTableBytes Holdings) (mostTableBytes Placement) (mostTableBytes Claims) (omega arith) (omega arith) (omega arith)) ∙ e))

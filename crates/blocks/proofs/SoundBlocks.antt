@@ -20,16 +20,16 @@ use Rattle.records.proofs.ListLaws.{all-append, all-map}
 use Rattle.records.proofs.PassLaws.{Pass, clear, unclear, pass-left, pass-right}
 use Rattle.blocks.specs.Forms.{named}
 use Rattle.blocks.specs.Block.{originOf, sumsAgree, shaped}
-use Rattle.blocks.specs.File.{recordsAs, blocksOf, tablesIn, originIn, frameIn, blockChecks, blocksChecks}
-use Rattle.blocks.specs.Alone.{ownTables, aloneChecks, alone, aloneOf}
-use Rattle.blocks.specs.Steps.{Sized}
+use Rattle.blocks.specs.File.{recordsAs, blocksOf, tablesIn, originIn, frameIn, blockChecks, blocksChecks, fieldsOf}
+use Rattle.blocks.specs.Alone.{ownTables, aloneChecks, aloneAnswer, aloneCall}
+use Rattle.blocks.specs.Steps.Bounds.{Sized}
 use Rattle.blocks.specs.RoundTrips.{Reads}
 use Rattle.blocks.specs.Demands.{ReadAreSound}
 use Rattle.blocks.specs.declared.forms.Origin.{Origin}
 use Rattle.blocks.specs.declared.forms.Frame.{Frame}
 use Rattle.blocks.specs.declared.answers.Alone.the-variants.{Sound, Refused}
 use Rattle.blocks.proofs.BlockLaws.{account-is, origin-is}
-use Rattle.blocks.proofs.FileLaws.{Passed, block-passed, whole-file, recordChecks}
+use Rattle.blocks.proofs.FileLaws.{Passed, block-passed, whole-file}
 use Rattle.blocks.proofs.GoodBlocks.{read-both, read-good}
 use Rattle.blocks.proofs.AloneLaws.{shaped-sized, alone-sound}
 use Rattle.blocks.proofs.GoodFields.{GoodRecords, pass-good, good-pass, table-of, own-records, good-parts}
@@ -60,17 +60,17 @@ alone-numbered b =
     let one : (kind : Kind) (x : List ℕ) → Numbered (askEach (goodRecord kind) 4 (tableNumber kind) 0 (recordsOf x)) =
     λ kind x. each-numbered (goodRecord kind) (tableNumber kind) 0 (recordsOf x) in
     let numbered : Check → Type 0 = λ c. 1 ≤ c .refusal .number in
-    let fields : Numbered (recordChecks t) =
+    let fields : Numbered (fieldsOf t) =
     all-append numbered (fieldChecks Holdings (t .holdings)) _ (one Holdings (t .holdings))
     (all-append numbered (fieldChecks Placement (t .placement)) _ (one Placement (t .placement)) (one Claims (t .claims))) in
-    (omega arith, (omega arith, (omega arith, all-append numbered (recordChecks t) _ fields (omega arith, tt))))
+    (omega arith, (omega arith, (omega arith, all-append numbered (fieldsOf t) _ fields (omega arith, tt))))
 
 -- what is not sound by itself has a number
-pub refused-numbered : (b : List ℕ) (r : Refusal) → aloneOf b ≡ Refused r → 1 ≤ r .number
-unfolding aloneOf
+pub refused-numbered : (b : List ℕ) (r : Refusal) → aloneCall b ≡ Refused r → 1 ≤ r .number
+unfolding aloneCall
 refused-numbered b r e = go (firstOf (aloneChecks b)) refl e
   where
-    go : (f : Fault) → firstOf (aloneChecks b) ≡ f → alone f (originOf b) ≡ Refused r → 1 ≤ r .number
+    go : (f : Fault) → firstOf (aloneChecks b) ≡ f → aloneAnswer f (originOf b) ≡ Refused r → 1 ≤ r .number
     go Nothing q z = absurd (let y : _≡_ {A = ℕ} 0 1 = cc in omega arith)
     go (Is x) q z =
         let y : x .number ≡ r .number = cc in
@@ -82,14 +82,14 @@ pub record SoundAlone (b : List ℕ) : Type 0 where
   pub size : length b ≡ 512
   pub sums : sumsAgree b ≡ true
   pub shape : shaped (originOf b .form) b ≡ true
-  pub fields : Pass (recordChecks (ownTables b))
+  pub fields : Pass (fieldsOf (ownTables b))
   pub account : named (originOf b .form) (originOf b .account) ≡ true
 
 pub sound-is : (b : List ℕ) → firstOf (aloneChecks b) ≡ Nothing → SoundAlone b
 unfolding aloneChecks
 sound-is b e =
     let p = clear (aloneChecks b) e in
-    let fields = recordChecks (ownTables b) in
+    let fields = fieldsOf (ownTables b) in
     let last = ask (named (originOf b .form) (originOf b .account)) 20 0 0 ∷ [] in
     record {
       size = eqb-true (length b) 512 (p .0);
@@ -99,8 +99,8 @@ sound-is b e =
       account = pass-right fields last (p .1 .1 .1) .0;
     }
 
-pub is-sound : (b : List ℕ) → SoundAlone b → aloneOf b ≡ Sound (originOf b)
-is-sound b s = alone-sound b (s .size) (s .sums) (s .shape) (unclear (recordChecks (ownTables b)) (s .fields)) (s .account)
+pub is-sound : (b : List ℕ) → SoundAlone b → aloneCall b ≡ Sound (originOf b)
+is-sound b s = alone-sound b (s .size) (s .sums) (s .shape) (unclear (fieldsOf (ownTables b)) (s .fields)) (s .account)
 
 pub sound-sized : (b : List ℕ) → SoundAlone b → Sized b
 sound-sized b s = shaped-sized b (s .size) (s .shape)

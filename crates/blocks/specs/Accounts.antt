@@ -10,12 +10,14 @@ use Rattle.records.specs.Bytes.{AllBytes}
 use Rattle.records.specs.Chunks.{chunkAt}
 use Rattle.records.specs.Lists.{All}
 use Rattle.records.specs.Order.{refuse}
+use Rattle.records.specs.Written.{leftAfter}
+use Rattle.blocks.specs.Sizes.{blockBytes}
+use Rattle.blocks.specs.Writer.{hasWritten}
 use Rattle.blocks.specs.Forms.{kept, named, settled}
 use Rattle.blocks.specs.Block.{originOf}
 use Rattle.blocks.specs.File.{Tables, wholeFile, blocksOf, tablesIn, originIn, fileOf}
-use Rattle.blocks.specs.Writer.{filled}
-use Rattle.blocks.specs.Reader.{readOf}
-use Rattle.blocks.specs.Moves.{moveOf}
+use Rattle.blocks.specs.Reader.{readCall}
+use Rattle.blocks.specs.Moves.{moveCall}
 use Rattle.blocks.specs.RoundTrips.{Writes, Reads}
 use Rattle.blocks.specs.declared.forms.Form.{Form}
 use Rattle.blocks.specs.declared.forms.Origin.{Origin}
@@ -35,7 +37,7 @@ OneAccount =
 
 -- the first k blocks are those of another file, k being not 0
 abbrev pub Begins : ℕ → List ℕ → List ℕ → Type 0
-Begins k joined one = (1 ≤ k) × ((i : ℕ) → i < k → chunkAt 512 joined i ≡ chunkAt 512 one i)
+Begins k joined one = (1 ≤ k) × ((i : ℕ) → i < k → chunkAt blockBytes joined i ≡ chunkAt blockBytes one i)
 
 -- Of two files that the reader takes, of different forms or accounts: blocks of the one, and then a block of the other, in as many
 -- blocks as the first had, are refused at the first block of the other, with 3 or 20.
@@ -43,15 +45,15 @@ abbrev pub JoinedRefused : Type 0
 JoinedRefused =
     (one other joined : List ℕ) → Reads one → Reads other → (originIn one ≡ originIn other → ⊥)
     → length joined ≡ length one
-    → (k j : ℕ) → Begins k joined one → k < length joined / 512 → j < length other / 512 → chunkAt 512 joined k ≡ chunkAt 512 other j
-    → (h p c : ℕ) → (readOf joined h p c ≡ Refused (refuse 3 0 k)) ⊎ (readOf joined h p c ≡ Refused (refuse 20 0 k))
+    → (k j : ℕ) → Begins k joined one → k < length joined / blockBytes → j < length other / blockBytes → chunkAt blockBytes joined k ≡ chunkAt blockBytes other j
+    → (h p c : ℕ) → (readCall joined h p c ≡ Refused (refuse 3 0 k)) ⊎ (readCall joined h p c ≡ Refused (refuse 20 0 k))
 
 -- in more blocks than the first had, or fewer, at once: each block says how many there are
 abbrev pub JoinedElsewhere : Type 0
 JoinedElsewhere =
-    (one joined : List ℕ) → Reads one → wholeFile (length joined) ≡ true → (length joined / 512 ≡ length one / 512 → ⊥)
+    (one joined : List ℕ) → Reads one → wholeFile (length joined) ≡ true → (length joined / blockBytes ≡ length one / blockBytes → ⊥)
     → (k : ℕ) → Begins k joined one
-    → (h p c : ℕ) → readOf joined h p c ≡ Refused (refuse 3 0 0)
+    → (h p c : ℕ) → readCall joined h p c ≡ Refused (refuse 3 0 0)
 
 -- ---- 'all else as before'
 
@@ -62,6 +64,6 @@ FormsAlike = (o q : Origin) (t : Tables) → Writes o t → Writes q t → table
 -- a file that is moved is taken by the reader, with the same tables, in as many bytes, in the form and of the account that it was moved to
 abbrev pub MovedAlike : Type 0
 MovedAlike =
-    (from : Form) (to : Origin) (file out : List ℕ) (n : ℕ) → AllBytes file → moveOf from to file (length out) ≡ Wrote n
-    → (let moved = take n (filled (Wrote n) to (tablesIn file) out) in
+    (from : Form) (to : Origin) (file out : List ℕ) (n : ℕ) → AllBytes file → moveCall from to file (length out) ≡ Wrote n
+    → (let moved = take n (leftAfter (hasWritten (Wrote n)) (fileOf to (tablesIn file)) out) in
     Reads moved × (tablesIn moved ≡ tablesIn file) × (originIn moved ≡ settled to) × (n ≡ length file))

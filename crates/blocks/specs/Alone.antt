@@ -5,12 +5,12 @@ use Prim.Native.Nat.{ℕ}
 use lib.Dec.{eqb}
 use lib.ListN.{length}
 use Rattle.records.specs.Order.{Check, ask, firstOf}
-use Rattle.records.specs.Tables.{fieldsChecks}
+use Rattle.blocks.specs.Sizes.{blockBytes}
 use Rattle.records.specs.declared.refusals.Fault.{Fault}
 use Rattle.records.specs.declared.refusals.Fault.the-variants.{Nothing, Is}
 use Rattle.blocks.specs.Forms.{named}
 use Rattle.blocks.specs.Block.{originOf, sumsAgree, shaped}
-use Rattle.blocks.specs.File.{Tables, tablesOf}
+use Rattle.blocks.specs.File.{Tables, tablesOf, fieldsOf}
 use Rattle.blocks.specs.declared.forms.Origin.{Origin}
 use Rattle.blocks.specs.declared.answers.Alone.{Alone}
 use Rattle.blocks.specs.declared.answers.Alone.the-variants.{Sound, Refused}
@@ -23,16 +23,16 @@ ownTables b = tablesOf (b ∷ [])
 -- account zero'. Table and place are those within the block.
 unfoldable pub aloneChecks : List ℕ → List Check
 aloneChecks b =
-    ask (eqb (length b) 512) 1 0 0
+    ask (eqb (length b) blockBytes) 1 0 0
     ∷ ask (sumsAgree b) 2 0 0
     ∷ ask (shaped (originOf b .form) b) 3 0 0
-    ∷ (fieldsChecks (ownTables b .holdings) (ownTables b .placement) (ownTables b .claims)
+    ∷ (fieldsOf (ownTables b)
     ++ (ask (named (originOf b .form) (originOf b .account)) 20 0 0 ∷ []))
 
 -- the first refusal, or the form and the account that the block says
-abbrev pub alone : Fault → Origin → Alone
-alone Nothing o = Sound o
-alone (Is r) o = Refused r
+abbrev pub aloneAnswer : Fault → Origin → Alone
+aloneAnswer Nothing o = Sound o
+aloneAnswer (Is r) o = Refused r
 
-unfoldable pub aloneOf : List ℕ → Alone
-aloneOf b = alone (firstOf (aloneChecks b)) (originOf b)
+unfoldable pub aloneCall : List ℕ → Alone
+aloneCall b = aloneAnswer (firstOf (aloneChecks b)) (originOf b)

@@ -2,7 +2,7 @@
 ghost use mathlib.Core.Path.{_≡_};
 ghost use lib.ListN.{length};
 ghost use Rattle.records.specs.Order.{refuse};
-ghost use Rattle.blocks.specs.Alone.{aloneOf};
+ghost use Rattle.blocks.specs.Alone.{aloneCall};
 use crate::answers::Alone;
 use crate::checks::sums_agree;
 use crate::fields::file_fields_fault;
@@ -27,7 +27,7 @@ fn refused(number: u8) -> Alone
 // Refusals 2, 3, 4 and 20 of 512 bytes. The block is a file of its own to the search for a bad field.
 fn judge_whole(block: &[u8]) -> Alone
     requires { ⌜ length (now block) ≡ 512 ⌝ }
-    ensures { λ r. ⌜ r ≡ aloneOf (now (block .entry)) ⌝ }
+    ensures { λ r. ⌜ r ≡ aloneCall (now (block .entry)) ⌝ }
 {
     let origin = origin_of(block);
     let form = origin.form;
@@ -52,7 +52,7 @@ fn judge_whole(block: &[u8]) -> Alone
 // Refusals 1, 2, 3, 4 and 20 of a block by itself, with numbering, order, short-block and limit rules set
 // aside, or its form and account. What has not 512 bytes is torn, and is 1.
 pub fn judge_block(block: &[u8]) -> Alone
-    ensures { λ r. ⌜ r ≡ aloneOf (now (block .entry)) ⌝ }
+    ensures { λ r. ⌜ r ≡ aloneCall (now (block .entry)) ⌝ }
 {
     if block.len() == BLOCK_BYTES {
         judge_whole(block)

@@ -1,7 +1,9 @@
 // A block's bytes outside its records and checks: 0-15, unused places, 496-507.
 ghost use mathlib.Core.Path.{_≡_};
+ghost use Prim.Native.Nat.{_≤_};
 ghost use lib.ListN.{length};
 ghost use Rattle.blocks.specs.Block.{accountOf, formOf, originOf, headFits, tailFits, shaped, numberFits, accountFits, headOf, tailOf};
+ghost use Rattle.blocks.specs.File.{countedAs, recordsAs};
 use crate::bytes::all_zero;
 use crate::bytes::equal;
 use crate::forms::Form;
@@ -137,6 +139,31 @@ pub(crate) fn origin_of(block: &[u8]) -> Origin
     let form = form_of(block);
     let account = account_of(form, block);
     Origin { form, account }
+}
+
+// How many of a block's records are a table's: all or none.
+pub(crate) fn counted_as(table: Kind, kind: u8, count: u8) -> usize
+    ensures { λ r. ⌜ (r ≡ countedAs table kind count) × (r ≤ count) ⌝ }
+{
+    if kind == records::table_number(table) {
+        count as usize
+    } else {
+        0
+    }
+}
+
+// How many bytes of records of a kind a block has. Where it counts more than it has room for, its records
+// end with it.
+pub(crate) fn bytes_as(kind: Kind, block: &[u8]) -> usize
+    requires { ⌜ length (now block) ≡ 512 ⌝ }
+    ensures { λ r. ⌜ (r ≡ length (recordsAs kind (now (block .entry)))) × (r ≤ 496) ⌝ }
+{
+    let count = counted_as(kind, block[KIND_AT], block[COUNT_AT]);
+    if count <= FULL as usize {
+        RECORD_BYTES * count
+    } else {
+        BLOCK_BYTES - RECORDS_AT
+    }
 }
 
 // Whether bytes 0 to 5 and 10 to 15 are those of a block of this form.

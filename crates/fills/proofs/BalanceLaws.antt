@@ -15,8 +15,9 @@ use Rattle.records.proofs.LineLaws.{line-sym, swap-line}
 use Rattle.records.proofs.ListLaws.{all-map}
 use Rattle.records.proofs.Measures.{sum-append}
 use Rattle.records.proofs.TableLaws.{within-true}
-use Rattle.fills.specs.Fills.{actionOf, isOpen, isClose, plainOf, fillLeg, goodPlain, goodFill}
-use Rattle.fills.specs.Rows.{heldOf, opened, closed, merged}
+use Rattle.records.specs.Tables.{goodUnpaid}
+use Rattle.fills.specs.Fills.{actionOf, isOpen, isClose, plainOf, fillLeg, goodFill}
+use Rattle.fills.specs.Rows.{heldOf, opened, closed, mergedRows}
 use Rattle.fills.specs.Played.{numberOver, rowsAfter, playedOver}
 use Rattle.fills.specs.Ledger.{Ledger, emptyLedger, startedFrom, ledgerAfter, StandFor, Apart}
 use Rattle.fills.specs.Balance.{acceptedOver, openedIn, closedIn}
@@ -86,7 +87,7 @@ opens-only f e = rw (eqb-true (actionOf f) 1 e)
 closes-only : (f : List ℕ) → goodFill f ≡ true → isOpen f ≡ false → isClose f ≡ true
 unfolding goodFill
 closes-only f g e =
-    let w = within-true 1 2 (actionOf f) (and-eq-true-iff (within 1 2 (actionOf f)) (goodPlain (plainOf f)) .0 g .0) in
+    let w = within-true 1 2 (actionOf f) (and-eq-true-iff (within 1 2 (actionOf f)) (goodUnpaid (plainOf f)) .0 g .0) in
     elim (decLe (actionOf f) 1) [
       | yes h ↦ absurd (eqb-false (actionOf f) 1 e (omega (arith, w .0)))
       | no h ↦ eq-eqb (actionOf f) 2 (omega (arith, w .1))
@@ -159,7 +160,7 @@ contracts-kept legs fills a x =
     let start = start-stands legs a in
     omega (
       arith,
-      contracts-held x (playedOver (merged legs) fills) (ledger-stands legs fills a .apart),
+      contracts-held x (playedOver (mergedRows legs) fills) (ledger-stands legs fills a .apart),
       held-merged x legs,
-      over-even x (merged legs) (startedFrom emptyLedger legs) fills start,
+      over-even x (mergedRows legs) (startedFrom emptyLedger legs) fills start,
     )

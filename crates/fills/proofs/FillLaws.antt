@@ -12,7 +12,7 @@ use borrow.Author.Tests.{eqb-true, eq-eqb, lt-leb, lt-ltb, le-ltb}
 use Rattle.records.specs.Bytes.{leAt}
 use Rattle.records.specs.Chunks.{chunkAt}
 use Rattle.records.specs.Legs.{legFields, legOf, isPaid, inRange, goodLeg}
-use Rattle.records.specs.Tables.{goodRecord}
+use Rattle.records.specs.Tables.{goodRecord, goodUnpaid}
 use Rattle.records.specs.Within.{within}
 use Rattle.records.specs.Written.{putAt}
 use Rattle.records.specs.declared.legs.Leg.{Leg}
@@ -20,9 +20,9 @@ use Rattle.records.specs.declared.tables.Kind.the-variants.{Holdings}
 use Rattle.records.proofs.ChunkLaws.{record-size}
 use Rattle.records.proofs.TableLaws.{ranges}
 use Rattle.records.proofs.PutLaws.{put-one}
-use Rattle.fills.specs.Fills.{actionAt, actionOf, plainOf, fillLeg, goodPlain, goodFill}
+use Rattle.fills.specs.Fills.{actionAt, actionOf, plainOf, fillLeg, goodFill}
 use Rattle.fills.specs.Rows.{unmarked, heldOf, opened, closed}
-use Rattle.fills.specs.Links.{legIn}
+use Rattle.fills.specs.Steps.Links.{legInPlay}
 use Rattle.fills.specs.Played.{openNumber, closeNumber, fillNumber, numberOver, rowsAfter}
 use Rattle.fills.proofs.PartLaws.{put-whole}
 
@@ -49,12 +49,12 @@ pub good-size : (xs : List ℕ) → goodRecord Holdings xs ≡ true → length x
 unfolding goodLeg
 good-size xs e = eqb-true (length xs) 32 (and-eq-true-iff (eqb (length xs) 32) _ .0 e .0)
 
-pub plain-record : (xs : List ℕ) → goodPlain xs ≡ true → goodRecord Holdings xs ≡ true
-unfolding goodPlain
+pub plain-record : (xs : List ℕ) → goodUnpaid xs ≡ true → goodRecord Holdings xs ≡ true
+unfolding goodUnpaid
 plain-record xs e = and-eq-true-iff (goodRecord Holdings xs) _ .0 e .0
 
-pub plain-unpaid : (xs : List ℕ) → goodPlain xs ≡ true → legOf xs .paid ≡ 0
-unfolding goodPlain
+pub plain-unpaid : (xs : List ℕ) → goodUnpaid xs ≡ true → legOf xs .paid ≡ 0
+unfolding goodUnpaid
 plain-unpaid xs e =
     let m = ranges 0 (legOf xs) (good-range xs (plain-record xs e)) .paid in
     let n = and-eq-true-iff (goodRecord Holdings xs) (not (isPaid (legOf xs))) .0 e .1 in
@@ -109,12 +109,12 @@ plain-leg : (xs : List ℕ) → length xs ≡ 32 → legOf xs ≡ fillLeg xs
 unfolding legOf
 plain-leg xs e = rw (plain-size xs (omega arith), e) (sym (plain-fields xs (omega arith)))
 
-pub leg-start : (h f : List ℕ) (i : ℕ) → i < length h / 32 → legIn h f i ≡ unmarked (chunkAt 32 h i)
-unfolding legIn
+pub leg-start : (h f : List ℕ) (i : ℕ) → i < length h / 32 → legInPlay h f i ≡ unmarked (chunkAt 32 h i)
+unfolding legInPlay
 leg-start h f i a = rw (lt-ltb i (length h / 32) a)
 
-pub leg-fill : (h f : List ℕ) (i : ℕ) → i < length f / 32 → legIn h f (length h / 32 + i) ≡ fillLeg (chunkAt 32 f i)
-unfolding legIn
+pub leg-fill : (h f : List ℕ) (i : ℕ) → i < length f / 32 → legInPlay h f (length h / 32 + i) ≡ fillLeg (chunkAt 32 f i)
+unfolding legInPlay
 leg-fill h f i a =
     let q : length h / 32 + i - length h / 32 ≡ i = omega arith in
     rw (le-ltb (length h / 32 + i) (length h / 32) (omega arith), q) (plain-leg (chunkAt 32 f i) (record-size f i a))
@@ -147,12 +147,12 @@ module _ (xs : List ℕ) (rows : List Leg) where
   unfolding rowsAfter
   said number after e f = (e, rw (e, f))
 
-  pub open-fill : goodPlain (plainOf xs) ≡ true → actionOf xs ≡ 1
+  pub open-fill : goodUnpaid (plainOf xs) ≡ true → actionOf xs ≡ 1
       → Said (openNumber (heldOf (fillLeg xs) rows) (length rows) (fillLeg xs .contracts .0)) (opened (fillLeg xs) rows)
   unfolding numberOver fillNumber goodFill
   open-fill g a = said _ _ (rw (a, g)) (rw a)
 
-  pub close-fill : goodPlain (plainOf xs) ≡ true → actionOf xs ≡ 2
+  pub close-fill : goodUnpaid (plainOf xs) ≡ true → actionOf xs ≡ 2
       → Said (closeNumber (heldOf (fillLeg xs) rows) (fillLeg xs .contracts .0)) (closed (fillLeg xs) rows)
   unfolding numberOver fillNumber goodFill
   close-fill g a = said _ _ (rw (a, g)) (rw a)
@@ -161,10 +161,10 @@ module _ (xs : List ℕ) (rows : List Leg) where
   unfolding numberOver fillNumber rowsAfter
   bad-fill b = (rw b, rw b)
 
-  pub bad-record : goodPlain (plainOf xs) ≡ false → (numberOver rows xs ≡ 4) × (rowsAfter rows xs ≡ rows)
+  pub bad-record : goodUnpaid (plainOf xs) ≡ false → (numberOver rows xs ≡ 4) × (rowsAfter rows xs ≡ rows)
   unfolding goodFill
   bad-record b = bad-fill (rw (b, and-false))
 
   pub bad-action : (actionOf xs ≡ 1 → ⊥) → (actionOf xs ≡ 2 → ⊥) → (numberOver rows xs ≡ 4) × (rowsAfter rows xs ≡ rows)
   unfolding goodFill
-  bad-action a b = bad-fill (ap (λ (t : Bool). t && goodPlain (plainOf xs)) (neither (actionOf xs) a b))
+  bad-action a b = bad-fill (ap (λ (t : Bool). t && goodUnpaid (plainOf xs)) (neither (actionOf xs) a b))

@@ -16,7 +16,7 @@ use Rattle.records.specs.declared.legs.Leg.{Leg}
 use Rattle.records.proofs.LineLaws.{line-with}
 use Rattle.records.proofs.ListLaws.{all-append}
 use Rattle.fills.specs.Rows.{heldOf, opened, closed}
-use Rattle.fills.specs.Steps.{rowAt, rowsOf, rowsTo, Live}
+use Rattle.fills.specs.Steps.Standing.{rowAt, rowsOf, rowsTo, Live}
 use Rattle.fills.proofs.PlaceLaws.{Others, held-at, opened-at, closed-at}
 
 -- ---- parts

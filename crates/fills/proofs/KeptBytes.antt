@@ -21,9 +21,9 @@ use Rattle.records.proofs.ListLaws.{map-all}
 use Rattle.records.proofs.RecordLaws.{record-back}
 use Rattle.records.proofs.TableLaws.{fields-good}
 use Rattle.fills.specs.Fills.{isOpen, fillLeg}
-use Rattle.fills.specs.Rows.{more, fewer, opened, closed, mergedInto, merged, bytesOf, unmarked, startingLegs}
+use Rattle.fills.specs.Rows.{more, fewer, opened, closed, mergedInto, mergedRows, bytesOf, unmarked, startingLegs}
 use Rattle.fills.specs.Played.{numberOver, rowsAfter, playedOver}
-use Rattle.fills.specs.Calls.{rowsPlayed, left}
+use Rattle.fills.specs.Calls.{rowsPlayed}
 use Rattle.fills.specs.Ledger.{Apart}
 use Rattle.fills.specs.Balance.{acceptedOver}
 use Rattle.fills.specs.Demands.{Untouched, UntouchedStays, StartingStays}
@@ -124,7 +124,7 @@ module _ (h f x : List ℕ) (u : Untouched h f x) where
   row-stays : In (legOf x) (rowsPlayed h f)
   unfolding rowsPlayed
   row-stays =
-      in-over (legOf x) (merged (startingLegs h)) (recordsOf f)
+      in-over (legOf x) (mergedRows (startingLegs h)) (recordsOf f)
       (rw starting (merged-new (legOf x) [] (map unmarked (u .before)) (map unmarked (u .after)) tt (others (u .before) (u .first)) (others (u .after) (u .last))))
       (u .played)
 
@@ -179,15 +179,14 @@ none-played rows [] e = refl
 none-played rows (f ∷ fs) e =
     let s = none-after rows f (acceptedOver (rowsAfter rows f) fs) e in none-played (rowsAfter rows f) fs (s .1) ∙ s .0
 
-legs-stay : (h f : List ℕ) → Apart (legsOf h) → All (λ l. l .paid ≡ 0) (legsOf h) → acceptedOver (merged (startingLegs h)) (recordsOf f) ≡ []
+legs-stay : (h f : List ℕ) → Apart (legsOf h) → All (λ l. l .paid ≡ 0) (legsOf h) → acceptedOver (mergedRows (startingLegs h)) (recordsOf f) ≡ []
     → rowsPlayed h f ≡ legsOf h
 unfolding rowsPlayed
 legs-stay h f apart marks e =
     let legs : startingLegs h ≡ legsOf h = starting-is h ∙ unpaid-same (legsOf h) marks in
-    none-played (merged (startingLegs h)) (recordsOf f) e ∙ ap merged legs ∙ merged-apart [] (legsOf h) apart
+    none-played (mergedRows (startingLegs h)) (recordsOf f) e ∙ ap mergedRows legs ∙ merged-apart [] (legsOf h) apart
 
 pub starting-stays : StartingStays
-unfolding left
 starting-stays h f result indices numbers n k a e apart marks none =
     let q = passed h f (length result) indices numbers n k e in
     rw (legs-stay h f apart marks none, table-back h f (q .0) a)

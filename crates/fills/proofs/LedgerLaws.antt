@@ -15,10 +15,11 @@ use Rattle.records.specs.Within.{within}
 use Rattle.records.specs.declared.legs.Leg.{Leg}
 use Rattle.records.proofs.LineLaws.{line-sym}
 use Rattle.records.proofs.TableLaws.{ranges}
-use Rattle.fills.specs.Fills.{actionOf, isOpen, plainOf, fillLeg, goodPlain, goodFill}
-use Rattle.fills.specs.Rows.{heldOf, opened, closed, mergedInto, merged}
+use Rattle.records.specs.Tables.{goodUnpaid}
+use Rattle.fills.specs.Fills.{actionOf, isOpen, plainOf, fillLeg, goodFill}
+use Rattle.fills.specs.Rows.{heldOf, opened, closed, mergedInto, mergedRows}
 use Rattle.fills.specs.Played.{openNumber, closeNumber, fillNumber, numberOver, rowsAfter, playedOver, refusedOver}
-use Rattle.fills.specs.Ledger.{Ledger, emptyLedger, counts, posted, bought, sold, startedFrom, numberIn, ledgerAfter, ledgerOver, refusedBy, StandFor, Filled}
+use Rattle.fills.specs.Ledger.{Ledger, emptyLedger, counts, posted, withMore, withLess, startedFrom, numberIn, ledgerAfter, ledgerOver, refusedBy, StandFor, Filled}
 use Rattle.fills.specs.Demands.{LedgerStands, LedgerRefuses, LedgerStarts}
 use Rattle.fills.proofs.FillLaws.{good-range, plain-record, plain-unpaid}
 use Rattle.fills.proofs.MergeLaws.{held-opened, held-merged}
@@ -51,7 +52,7 @@ module _ (x : Leg) (rows : List Leg) (g : Ledger) (s : StandFor rows g) (one : 1
       go true k o = rw k (omega (arith, rw k at o, s .lines))
       go false k o = rw k (omega (arith, rw k at o, s .lines, rows-some x rows (rw e (some-held held k))))
 
-  pub opened-stands : StandFor (opened x rows) (bought x g)
+  pub opened-stands : StandFor (opened x rows) (withMore x g)
   unfolding posted
   opened-stands =
       record {
@@ -73,7 +74,7 @@ module _ (x : Leg) (rows : List Leg) (g : Ledger) (s : StandFor rows g) (one : 1
         let o = rw e at (length-closed-is x rows one enough) in
         rw c (omega (arith, o, s .lines, rows-some x rows (omega arith)))
 
-    pub closed-stands : StandFor (closed x rows) (sold x g)
+    pub closed-stands : StandFor (closed x rows) (withLess x g)
     unfolding posted
     closed-stands =
         record {
@@ -97,9 +98,9 @@ module _ (held lines : ℕ) (xs : List ℕ) (z : fillNumber held lines xs ≡ 0)
       go true e q = e
       go false e q = absurd (omega (arith, q))
 
-  fill-plain : goodPlain (plainOf xs) ≡ true
+  fill-plain : goodUnpaid (plainOf xs) ≡ true
   unfolding goodFill
-  fill-plain = and-right (within 1 2 (actionOf xs)) (goodPlain (plainOf xs)) fill-good
+  fill-plain = and-right (within 1 2 (actionOf xs)) (goodUnpaid (plainOf xs)) fill-good
 
   pub fill-unpaid : fillLeg xs .paid ≡ 0
   fill-unpaid = plain-unpaid (plainOf xs) fill-plain
@@ -128,7 +129,7 @@ module _ (rows : List Leg) (g : Ledger) (s : StandFor rows g) (xs : List ℕ) wh
   after-stands = rw (← same-number) (go (eqb (numberOver rows xs) 0) refl (isOpen xs) refl)
     where
       go : (b : Bool) → eqb (numberOver rows xs) 0 ≡ b → (o : Bool) → isOpen xs ≡ o
-          → StandFor (cond b (cond o (opened (fillLeg xs) rows) (closed (fillLeg xs) rows)) rows) (cond b (cond o (bought (fillLeg xs) g) (sold (fillLeg xs) g)) g)
+          → StandFor (cond b (cond o (opened (fillLeg xs) rows) (closed (fillLeg xs) rows)) rows) (cond b (cond o (withMore (fillLeg xs) g) (withLess (fillLeg xs) g)) g)
       go true e true q =
           let z = eqb-true (numberOver rows xs) 0 e in
           opened-stands (fillLeg xs) rows g s (fill-one (heldOf (fillLeg xs) rows) (length rows) xs z)
@@ -154,19 +155,19 @@ over-refuses i rows g (f ∷ fs) s = rw (same-number rows g s f, over-refuses (i
 into-stands : (rows : List Leg) (g : Ledger) (legs : List Leg) → Filled legs → StandFor rows g → StandFor (mergedInto rows legs) (startedFrom g legs)
 unfolding mergedInto startedFrom
 into-stands rows g [] a s = s
-into-stands rows g (x ∷ xs) a s = into-stands (opened x rows) (bought x g) xs (a .1) (opened-stands x rows g s (a .0))
+into-stands rows g (x ∷ xs) a s = into-stands (opened x rows) (withMore x g) xs (a .1) (opened-stands x rows g s (a .0))
 
-pub start-stands : (legs : List Leg) → Filled legs → StandFor (merged legs) (startedFrom emptyLedger legs)
+pub start-stands : (legs : List Leg) → Filled legs → StandFor (mergedRows legs) (startedFrom emptyLedger legs)
 unfolding heldOf
 start-stands legs a = into-stands [] emptyLedger legs a (record { held = λ x. refl; lines = refl; apart = tt; some = tt })
 
 -- ---- 'Each is answered as a plain ledger from line and side to contracts would.'
 
 pub ledger-stands : LedgerStands
-ledger-stands legs fills a = over-stands (merged legs) (startedFrom emptyLedger legs) fills (start-stands legs a)
+ledger-stands legs fills a = over-stands (mergedRows legs) (startedFrom emptyLedger legs) fills (start-stands legs a)
 
 pub ledger-refuses : LedgerRefuses
-ledger-refuses legs fills a = over-refuses 0 (merged legs) (startedFrom emptyLedger legs) fills (start-stands legs a)
+ledger-refuses legs fills a = over-refuses 0 (mergedRows legs) (startedFrom emptyLedger legs) fills (start-stands legs a)
 
 pub ledger-starts : LedgerStarts
 ledger-starts legs a x = sym (start-stands legs a .held x) ∙ held-merged x legs

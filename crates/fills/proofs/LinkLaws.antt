@@ -10,8 +10,8 @@ use lib.Seq.{getD-set-same, getD-set-other}
 use Rattle.records.specs.Lines.{sameLineSide}
 use Rattle.records.specs.declared.legs.Leg.{Leg}
 use Rattle.records.proofs.LineLaws.{same?}
-use Rattle.fills.specs.Links.{bucketOf, Rising, Path, Leads}
-use Rattle.fills.specs.Links as links-of
+use Rattle.fills.specs.Steps.Links.{bucketOf, Rising, Path, Leads}
+use Rattle.fills.specs.Steps.Links as links-of
 
 -- legs of one line and side are in one bucket
 pub same-bucket : (x y : Leg) → sameLineSide x y ≡ true → bucketOf x ≡ bucketOf y

@@ -8,11 +8,11 @@ use native.Mathlib.Omega.{arith}
 use lib.Dec.{eqb, leb}
 use lib.ListN.{length}
 use borrow.Author.Tests.{le-leb, lt-leb}
-use Rattle.records.specs.Legs.{mostContracts, contractsFrom, withContracts}
+use Rattle.records.specs.Legs.{contractsFrom, withContracts}
 use Rattle.records.specs.Lines.{sameLineSide, contractsOf}
 use Rattle.records.specs.Lists.{only, sumOf}
 use Rattle.records.specs.Order.{firstOf, refuse}
-use Rattle.records.specs.Tables.{mostLegs}
+use Rattle.records.specs.Limits.{mostLegs, mostContracts}
 use Rattle.records.specs.declared.legs.Leg.{Leg}
 use Rattle.records.specs.declared.refusals.Fault.{Fault}
 use Rattle.records.specs.declared.refusals.Fault.the-variants.{Nothing, Is}
@@ -21,9 +21,9 @@ use Rattle.records.proofs.ChunkLaws.{rowsFrom, rows-all, rows-next, rows-none}
 use Rattle.records.proofs.LineLaws.{line-sym, line-swap, line-with}
 use Rattle.fills.specs.Calls.{askPast}
 use Rattle.fills.specs.Played.{openNumber}
-use Rattle.fills.specs.Rows.{heldOf, more, opened, mergedInto, merged, unmarked, startingLegs}
-use Rattle.fills.specs.Links.{legIn}
-use Rattle.fills.specs.Steps.{rowsTo, Blank, Stand, Opening, mergedAnswer, mergedOf}
+use Rattle.fills.specs.Rows.{heldOf, more, opened, mergedInto, mergedRows, unmarked, startingLegs}
+use Rattle.fills.specs.Steps.Links.{legInPlay}
+use Rattle.fills.specs.Steps.Standing.{rowsTo, Blank, Stand, Opening, mergedAnswer, mergedOf}
 use Rattle.fills.specs.declared.merge.Merged.the-variants.{Rows, Refused}
 use Rattle.fills.specs.declared.steps.Posting.{Posting}
 use Rattle.fills.proofs.FillLaws.{leg-start}
@@ -72,7 +72,7 @@ unfolding mergedInto contractsOf sumOf
 held-into x rows [] = omega arith
 held-into x rows (y ∷ ys) = omega (arith, held-into x (opened y rows) ys, held-opened x y rows)
 
-pub held-merged : (x : Leg) (legs : List Leg) → heldOf x (merged legs) ≡ contractsOf x legs
+pub held-merged : (x : Leg) (legs : List Leg) → heldOf x (mergedRows legs) ≡ contractsOf x legs
 unfolding heldOf
 held-merged x legs = held-into x [] legs ∙ omega arith
 
@@ -83,7 +83,7 @@ unfolding mergedInto
 into-snoc rows [] x = refl
 into-snoc rows (y ∷ ys) x = into-snoc (opened y rows) ys x
 
-pub merged-snoc : (legs : List Leg) (x : Leg) → merged (legs ++ x ∷ []) ≡ opened x (merged legs)
+pub merged-snoc : (legs : List Leg) (x : Leg) → mergedRows (legs ++ x ∷ []) ≡ opened x (mergedRows legs)
 merged-snoc legs x = into-snoc [] legs x
 
 pub length-opened : (x : Leg) (rows : List Leg) → length (opened x rows) ≤ length rows + 1
@@ -104,7 +104,7 @@ starting-all xs = rows-all unmarked xs
 pub record Merging (xs fills held links : List ℕ) (n i : ℕ) : Type 0 where
   pub before : List Leg
   pub whole : before ++ rowsFrom unmarked xs i ≡ startingLegs xs
-  pub stand : Stand (legIn xs fills) i held links n (merged before)
+  pub stand : Stand (legInPlay xs fills) i held links n (mergedRows before)
   pub few : n ≤ i
   pub asked : firstOf (askPast [] 0 (startingLegs xs)) ≡ firstOf (askPast before i (rowsFrom unmarked xs i))
 
@@ -114,7 +114,7 @@ merging-none xs fills held links a b none free =
     record {
       before = [];
       whole = starting-all xs;
-      stand = stand-none (legIn xs fills) held links a b none free;
+      stand = stand-none (legInPlay xs fills) held links a b none free;
       few = omega arith;
       asked = rw (starting-all xs);
     }
@@ -156,12 +156,12 @@ number-past held lines n h e =
     ]
 
 module _ {xs fills held links : List ℕ} {n i : ℕ} (m : Merging xs fills held links n i) (h : i < length xs / 32) (k : i < mostLegs)
-    (held′ links′ : List ℕ) (r : Posting) (p : Opening (legIn xs fills) i held n held′ links′ r) where
+    (held′ links′ : List ℕ) (r : Posting) (p : Opening (legInPlay xs fills) i held n held′ links′ r) where
   abbrev x : Leg
-  x = legIn xs fills i
+  x = legInPlay xs fills i
 
   abbrev rows : List Leg
-  rows = rowsTo (legIn xs fills) held i
+  rows = rowsTo (legInPlay xs fills) held i
 
   next : rowsFrom unmarked xs i ≡ x ∷ rowsFrom unmarked xs (i + 1)
   next = rows-next unmarked xs i x h (leg-start xs fills i h)
@@ -173,13 +173,13 @@ module _ {xs fills held links : List ℕ} {n i : ℕ} (m : Merging xs fills held
   merging-more z =
       let o : openNumber (heldOf x rows) n (x .contracts .0) ≡ 0 = sym (p .number) ∙ z in
       let f : heldOf x rows + x .contracts .0 ≤ mostContracts = number-fits _ n _ (omega (arith, m .few)) o in
-      let q : opened x rows ≡ merged (m .before ++ x ∷ []) = ap (opened x) (m .stand .are) ∙ sym (merged-snoc (m .before) x) in
-      let s : Stand (legIn xs fills) (i + 1) held′ links′ (r .rows) (merged (m .before ++ x ∷ [])) = rw (← q) (rw o at (p .stand)) in
+      let q : opened x rows ≡ mergedRows (m .before ++ x ∷ []) = ap (opened x) (m .stand .are) ∙ sym (merged-snoc (m .before) x) in
+      let s : Stand (legInPlay xs fills) (i + 1) held′ links′ (r .rows) (mergedRows (m .before ++ x ∷ [])) = rw (← q) (rw o at (p .stand)) in
       record {
         before = m .before ++ x ∷ [];
         whole = append-assoc (m .before) (x ∷ []) (rowsFrom unmarked xs (i + 1)) ∙ ap (λ (l : List Leg). m .before ++ l) (sym next) ∙ m .whole;
         stand = s;
-        few = omega (arith, s .count, ap length (merged-snoc (m .before) x), length-opened x (merged (m .before)), m .stand .count, m .few);
+        few = omega (arith, s .count, ap length (merged-snoc (m .before) x), length-opened x (mergedRows (m .before)), m .stand .count, m .few);
         asked = m .asked ∙ past-good (m .before) (rowsFrom unmarked xs (i + 1)) (rowsFrom unmarked xs i) i x next (omega (arith, now-held));
       }
 
@@ -196,7 +196,7 @@ module _ {xs fills held links : List ℕ} {n i : ℕ} (m : Merging xs fills held
   all : m .before ≡ startingLegs xs
   all = sym (append-nil (m .before)) ∙ ap (λ (l : List Leg). m .before ++ l) (sym none) ∙ m .whole
 
-  pub merging-stand : Stand (legIn xs fills) i held links n (merged (startingLegs xs))
+  pub merging-stand : Stand (legInPlay xs fills) i held links n (mergedRows (startingLegs xs))
   merging-stand = rw (← all) (m .stand)
 
   pub merging-over : Rows n ≡ mergedOf (startingLegs xs)
@@ -205,12 +205,12 @@ module _ {xs fills held links : List ℕ} {n i : ℕ} (m : Merging xs fills held
 
 -- ---- what the answer says
 
-pub merged-rows : (legs : List Leg) (n : ℕ) → Rows n ≡ mergedOf legs → (firstOf (askPast [] 0 legs) ≡ Nothing) × (n ≡ length (merged legs))
+pub merged-rows : (legs : List Leg) (n : ℕ) → Rows n ≡ mergedOf legs → (firstOf (askPast [] 0 legs) ≡ Nothing) × (n ≡ length (mergedRows legs))
 unfolding mergedOf
 merged-rows legs n e = go (firstOf (askPast [] 0 legs)) refl e
   where
-    go : (f : Fault) → firstOf (askPast [] 0 legs) ≡ f → Rows n ≡ mergedAnswer f (length (merged legs))
-        → (firstOf (askPast [] 0 legs) ≡ Nothing) × (n ≡ length (merged legs))
+    go : (f : Fault) → firstOf (askPast [] 0 legs) ≡ f → Rows n ≡ mergedAnswer f (length (mergedRows legs))
+        → (firstOf (askPast [] 0 legs) ≡ Nothing) × (n ≡ length (mergedRows legs))
     go Nothing p q = (p, cc)
     go (Is r) p q = let z : _≡_ {A = ℕ} 0 1 = cc in absurd (omega arith)
 
@@ -218,6 +218,6 @@ pub merged-refused : (legs : List Leg) (r : Refusal) → Refused r ≡ mergedOf 
 unfolding mergedOf
 merged-refused legs r e = go (firstOf (askPast [] 0 legs)) refl e
   where
-    go : (f : Fault) → firstOf (askPast [] 0 legs) ≡ f → Refused r ≡ mergedAnswer f (length (merged legs)) → firstOf (askPast [] 0 legs) ≡ Is r
+    go : (f : Fault) → firstOf (askPast [] 0 legs) ≡ f → Refused r ≡ mergedAnswer f (length (mergedRows legs)) → firstOf (askPast [] 0 legs) ≡ Is r
     go Nothing p q = let z : _≡_ {A = ℕ} 0 1 = cc in absurd (omega arith)
     go (Is s) p q = let t : r ≡ s = cc in p ∙ ap Is (sym t)

@@ -8,17 +8,17 @@ use native.Mathlib.Omega.{arith}
 use lib.Dec.{eqb}
 use lib.ListN.{length, getD, set}
 use borrow.Author.Tests.{le-leb, lt-leb, eq-eqb, ne-eqb}
-use Rattle.records.specs.Legs.{mostContracts, inRange, contractsFrom, plusContracts}
+use Rattle.records.specs.Legs.{inRange, contractsFrom, plusContracts}
 use Rattle.records.specs.Lines.{sameLineSide}
-use Rattle.records.specs.Tables.{mostLegs}
+use Rattle.records.specs.Limits.{mostLegs, mostContracts}
 use Rattle.records.specs.declared.counts.Contracts.{Contracts}
 use Rattle.records.specs.declared.legs.Leg.{Leg}
 use Rattle.records.proofs.LineLaws.{swap-line}
 use Rattle.records.proofs.TableLaws.{ranges}
 use Rattle.fills.specs.Rows.{heldOf}
 use Rattle.fills.specs.Played.{openNumber, closeNumber}
-use Rattle.fills.specs.Links.{bucketOf, isRow, Ended}
-use Rattle.fills.specs.Steps.{rowsTo, Live, Stand, Posted, Opening, Closing}
+use Rattle.fills.specs.Steps.Links.{bucketOf, isRow, Ended}
+use Rattle.fills.specs.Steps.Standing.{rowsTo, Live, Stand, Posted, Opening, Closing}
 use Rattle.fills.specs.declared.steps.Posting.{Posting}
 use Rattle.fills.proofs.HeldLaws.{rows-others, lot-held, lot-opened, lot-closed}
 use Rattle.fills.proofs.LinkLaws.{same-bucket}

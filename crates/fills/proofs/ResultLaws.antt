@@ -9,13 +9,14 @@ use lib.Dec.{eqb, leb}
 use lib.ListN.{length, take, length-append}
 use borrow.Author.Tests.{leb-true, le-leb, eq-eqb, eqb-true}
 use Rattle.records.specs.Chunks.{chunks, recordsOf}
-use Rattle.records.specs.Legs.{mostContracts, legBytes, legOf, inRange, withContracts, withPaid}
+use Rattle.records.specs.Legs.{legBytes, legOf, inRange, withContracts, withPaid}
 use Rattle.records.specs.Lines.{sameLineSide, contractsOf}
 use Rattle.records.specs.Lists.{All}
 use Rattle.records.specs.Listed.{indicesOf, numbersOf}
 use Rattle.records.specs.Order.{Check, firstOf}
-use Rattle.records.specs.Tables.{mostLegs, goodRecord, tableChecks, fieldChecks, countedOf, wholeTable}
-use Rattle.records.specs.Written.{putAt}
+use Rattle.records.specs.Limits.{mostLegs, mostContracts}
+use Rattle.records.specs.Tables.{goodRecord, tableChecks, fieldChecks, checkCall, wholeTable}
+use Rattle.records.specs.Written.{putAt, leftAfter}
 use Rattle.records.specs.declared.legs.Leg.{Leg}
 use Rattle.records.specs.declared.refusals.Fault.{Fault}
 use Rattle.records.specs.declared.refusals.Fault.the-variants.{Nothing, Is}
@@ -25,15 +26,15 @@ use Rattle.records.proofs.LegLaws.{contracts-range, paid-range, leg-good}
 use Rattle.records.proofs.LineLaws.{line-sym}
 use Rattle.records.proofs.ListLaws.{map-all}
 use Rattle.records.proofs.PassLaws.{Pass, clear, unclear, pass-left, pass-right, pass-both, each-pass}
-use Rattle.records.proofs.PutLaws.{put-front, put-past}
+use Rattle.records.proofs.PutLaws.{put-front, left-stands}
 use Rattle.records.proofs.TableLaws.{ranges, fields-good}
 use Rattle.records.proofs.ChunkLaws.{length-rows}
 use Rattle.fills.specs.Fills.{isOpen, fillLeg}
-use Rattle.fills.specs.Rows.{heldOf, fewer, opened, closed, mergedInto, merged, bytesOf, unmarked, startingLegs}
+use Rattle.fills.specs.Rows.{heldOf, fewer, opened, closed, mergedInto, mergedRows, bytesOf, unmarked, startingLegs}
 use Rattle.fills.specs.Played.{openNumber, numberOver, rowsAfter, playedOver, refusedOver}
-use Rattle.fills.specs.Calls.{startChecks, askPast, roomChecks, playChecks, rowsPlayed, refusedIn, answered, playOf, left}
+use Rattle.fills.specs.Calls.{playStart, askPast, playRoom, playChecks, rowsPlayed, refusedIn, playAnswer, playCall, hasPlayed}
 use Rattle.fills.specs.Ledger.{Apart, Filled}
-use Rattle.fills.specs.Demands.{CallStands, ResultSound, ResultUnpaid, ResultStays, Leaves, LeftBy, PlayLeaves}
+use Rattle.fills.specs.Demands.{CallStands, ResultSound, ResultUnpaid, ResultStays, LeftByPlay, PlayLeaves}
 use Rattle.fills.specs.declared.calls.Played.{Played}
 use Rattle.fills.specs.declared.calls.Played.the-variants.{Done, Refused}
 use Rattle.fills.proofs.BalanceLaws.{contracts-apart}
@@ -151,22 +152,22 @@ fine-over rows (x ∷ xs) f = fine-over (rowsAfter rows x) xs (fine-after rows x
 
 -- the records before, merged: in range, not marked, and no more than they were
 record Started (before : List Leg) : Type 0 where
-  pub good : All (λ l. inRange 0 l ≡ true) (merged before)
-  pub unpaid : All (λ l. l .paid ≡ 0) (merged before)
-  pub few : length (merged before) ≤ length before
+  pub good : All (λ l. inRange 0 l ≡ true) (mergedRows before)
+  pub unpaid : All (λ l. l .paid ≡ 0) (mergedRows before)
+  pub few : length (mergedRows before) ≤ length before
 
 started : (before rest : List Leg) (i : ℕ) → Started before → Pass (askPast before i rest) → All (λ l. inRange 0 l ≡ true) rest → All (λ l. l .paid ≡ 0) rest → Started (before ++ rest)
 unfolding askPast
 started before [] i s p a u = rw (append-nil before) s
 started before (x ∷ xs) i s p a u =
     let h = leb-true (contractsOf x before + x .contracts .0) mostContracts (p .0) in
-    let g = good-opened x (merged before) (a .0) (omega (arith, held-merged x before)) (s .good) in
+    let g = good-opened x (mergedRows before) (a .0) (omega (arith, held-merged x before)) (s .good) in
     let l : length (before ++ x ∷ []) ≡ length before + 1 = length-append before (x ∷ []) in
     let next : Started (before ++ x ∷ []) =
     record {
       good = rw (merged-snoc before x) g;
-      unpaid = rw (merged-snoc before x) (unpaid-opened x (merged before) (u .0) (s .unpaid));
-      few = rw (merged-snoc before x) (omega (arith, length-opened x (merged before), s .few));
+      unpaid = rw (merged-snoc before x) (unpaid-opened x (mergedRows before) (u .0) (s .unpaid));
+      few = rw (merged-snoc before x) (omega (arith, length-opened x (mergedRows before), s .few));
     } in
     rw (← append-assoc before (x ∷ []) xs) (started (before ++ x ∷ []) xs (i + 1) next (p .1) (a .1) (u .1))
 
@@ -176,22 +177,22 @@ pub record Passed (h f : List ℕ) : Type 0 where
   pub tabled : Tabled h f
   pub lots : Pass (askPast [] 0 (startingLegs h))
 
-pub passed : (h f : List ℕ) (result indices numbers n k : ℕ) → playOf h f result indices numbers ≡ Done n k → Passed h f × (n ≡ length (rowsPlayed h f))
-unfolding playOf playChecks
+pub passed : (h f : List ℕ) (result indices numbers n k : ℕ) → playCall h f result indices numbers ≡ Done n k → Passed h f × (n ≡ length (rowsPlayed h f))
+unfolding playCall playChecks
 passed h f result indices numbers n k e = go (firstOf checks) refl e
   where
     room : List Check
-    room = roomChecks (length f / 32) result indices numbers
+    room = playRoom (length f / 32) result indices numbers
 
     checks : List Check
-    checks = startChecks h f ++ (askPast [] 0 (startingLegs h) ++ room)
+    checks = playStart h f ++ (askPast [] 0 (startingLegs h) ++ room)
 
-    go : (v : Fault) → firstOf checks ≡ v → answered v (length (rowsPlayed h f)) (length (refusedIn h f)) ≡ Done n k → Passed h f × (n ≡ length (rowsPlayed h f))
+    go : (v : Fault) → firstOf checks ≡ v → playAnswer v (length (rowsPlayed h f)) (length (refusedIn h f)) ≡ Done n k → Passed h f × (n ≡ length (rowsPlayed h f))
     go Nothing q r =
         let p = clear checks q in (
           record {
-            tabled = tables-clear h f (unclear (startChecks h f) (pass-left (startChecks h f) (askPast [] 0 (startingLegs h) ++ room) p));
-            lots = pass-left (askPast [] 0 (startingLegs h)) room (pass-right (startChecks h f) (askPast [] 0 (startingLegs h) ++ room) p);
+            tabled = tables-clear h f (unclear (playStart h f) (pass-left (playStart h f) (askPast [] 0 (startingLegs h) ++ room) p));
+            lots = pass-left (askPast [] 0 (startingLegs h)) room (pass-right (playStart h f) (askPast [] 0 (startingLegs h) ++ room) p);
           },
           cc,
         )
@@ -225,18 +226,18 @@ module _ (h f : List ℕ) (p : Passed h f) where
   unfolding rowsPlayed
   rows-fine =
       let s = started [] (startingLegs h) 0 none-started (p .lots) (legs-good h (p .tabled .fields)) (legs-unpaid h) in
-      fine-over (merged (startingLegs h)) (recordsOf f)
+      fine-over (mergedRows (startingLegs h)) (recordsOf f)
       (record { few = omega (arith, s .few, length-starting h, p .tabled .torn); good = s .good; unpaid = s .unpaid })
 
   rows-apart : Apart (rowsPlayed h f)
   unfolding rowsPlayed
   rows-apart = ledger-stands (startingLegs h) (recordsOf f) (filled (startingLegs h) (legs-good h (p .tabled .fields))) .apart
 
-listed : (h f : List ℕ) (result indices numbers n k : ℕ) → playOf h f result indices numbers ≡ Done n k → k ≡ length (refusedIn h f)
-unfolding playOf
+listed : (h f : List ℕ) (result indices numbers n k : ℕ) → playCall h f result indices numbers ≡ Done n k → k ≡ length (refusedIn h f)
+unfolding playCall
 listed h f result indices numbers n k e = go (firstOf (playChecks h f result indices numbers)) e
   where
-    go : (v : Fault) → answered v (length (rowsPlayed h f)) (length (refusedIn h f)) ≡ Done n k → k ≡ length (refusedIn h f)
+    go : (v : Fault) → playAnswer v (length (rowsPlayed h f)) (length (refusedIn h f)) ≡ Done n k → k ≡ length (refusedIn h f)
     go Nothing r = cc
     go (Is x) r = let z : _≡_ {A = ℕ} 0 1 = cc in absurd (omega arith)
 
@@ -251,8 +252,8 @@ whole-bytes rows f =
     let l = length-bytes rows in
     rw (eq-eqb (length (bytesOf rows) % 32) 0 (omega arith), le-leb (length (bytesOf rows) / 32) mostLegs (omega (arith, f .few)))
 
-table-sound : (rows : List Leg) → Fine rows → countedOf Holdings (bytesOf rows) ≡ Records (length rows)
-unfolding countedOf tableChecks fieldChecks
+table-sound : (rows : List Leg) → Fine rows → checkCall Holdings (bytesOf rows) ≡ Records (length rows)
+unfolding checkCall tableChecks fieldChecks
 table-sound rows f =
     let l = length-bytes rows in
     let q : length (bytesOf rows) / 32 ≡ length rows = omega arith in
@@ -313,24 +314,23 @@ past-apart before (x ∷ xs) i a g = (
 
 -- a table of rows apart, played over by no fills, is refused nothing
 again-clear : (rows : List Leg) (room i j : ℕ) → Fine rows → Apart rows → 8192 ≤ room → firstOf (playChecks (bytesOf rows) [] room i j) ≡ Nothing
-unfolding playChecks startChecks fieldChecks roomChecks
+unfolding playChecks playStart fieldChecks playRoom
 again-clear rows room i j f a h =
     let w = whole-bytes rows f in
-    let fields : Pass (startChecks (bytesOf rows) []) =
+    let fields : Pass (playStart (bytesOf rows) []) =
     (rw w, each-pass (goodRecord Holdings) 4 1 0 (recordsOf (bytesOf rows)) (records-good rows (f .good))) in
     let lots : Pass (askPast [] 0 (startingLegs (bytesOf rows))) = rw (starting-same rows f) (past-apart [] rows 0 a (f .good)) in
-    let room-there : Pass (roomChecks 0 room i j) = (le-leb 8192 room h, (rw (le-leb 0 i (omega arith), le-leb 0 j (omega arith)), tt)) in
+    let room-there : Pass (playRoom 0 room i j) = (le-leb 8192 room h, (rw (le-leb 0 i (omega arith), le-leb 0 j (omega arith)), tt)) in
     unclear (playChecks (bytesOf rows) [] room i j)
-    (pass-both (startChecks (bytesOf rows) []) (askPast [] 0 (startingLegs (bytesOf rows)) ++ roomChecks 0 room i j) fields
-    (pass-both (askPast [] 0 (startingLegs (bytesOf rows))) (roomChecks 0 room i j) lots room-there))
+    (pass-both (playStart (bytesOf rows) []) (askPast [] 0 (startingLegs (bytesOf rows)) ++ playRoom 0 room i j) fields
+    (pass-both (askPast [] 0 (startingLegs (bytesOf rows))) (playRoom 0 room i j) lots room-there))
 
-again-done : (rows : List Leg) (room i j : ℕ) → Fine rows → Apart rows → 8192 ≤ room → playOf (bytesOf rows) [] room i j ≡ Done (length rows) 0
-unfolding playOf
+again-done : (rows : List Leg) (room i j : ℕ) → Fine rows → Apart rows → 8192 ≤ room → playCall (bytesOf rows) [] room i j ≡ Done (length rows) 0
+unfolding playCall
 again-done rows room i j f a h = rw (again-clear rows room i j f a h, again rows f a, none-refused (bytesOf rows))
 
 -- the records that a call leaves at the front of its result
-pub left-records : (rows : List Leg) (result : List ℕ) (n k : ℕ) → n ≡ length rows → take (32 * n) (left (Done n k) (bytesOf rows) result) ≡ bytesOf rows
-unfolding left
+pub left-records : (rows : List Leg) (result : List ℕ) (n k : ℕ) → n ≡ length rows → take (32 * n) (leftAfter (hasPlayed (Done n k)) (bytesOf rows) result) ≡ bytesOf rows
 left-records rows result n k e =
     let m : 32 * n ≡ length (bytesOf rows) = omega (arith, length-bytes rows) in
     rw m (put-front result (bytesOf rows))
@@ -354,19 +354,15 @@ call-stands h f result indices numbers n k e =
 
 -- ---- what is left in the lent slices
 
-leaves : (entries d : List ℕ) → Leaves entries d (putAt d 0 entries)
-leaves entries d = (put-front d entries, put-past d entries)
-
 pub play-leaves : PlayLeaves
-unfolding left
-play-leaves h f d i m = go (playOf h f (length d) (length i) (length m)) refl
+play-leaves h f d i m = go (playCall h f (length d) (length i) (length m)) refl
   where
-    go : (r : Played) → playOf h f (length d) (length i) (length m) ≡ r → LeftBy r h f d i m
+    go : (r : Played) → playCall h f (length d) (length i) (length m) ≡ r → LeftByPlay r h f d i m
     go (Done n k) e = (
       length-bytes (rowsPlayed h f) ∙ ap (λ (t : ℕ). 32 * t) (sym (passed h f (length d) (length i) (length m) n k e .1)),
       sym (listed h f (length d) (length i) (length m) n k e),
-      leaves (bytesOf (rowsPlayed h f)) d,
-      leaves (indicesOf (refusedIn h f)) i,
-      leaves (numbersOf (refusedIn h f)) m,
+      left-stands d (bytesOf (rowsPlayed h f)),
+      left-stands i (indicesOf (refusedIn h f)),
+      left-stands m (numbersOf (refusedIn h f)),
     )
     go (Refused r) e = (refl, refl, refl)

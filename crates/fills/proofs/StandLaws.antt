@@ -10,11 +10,11 @@ use lib.Seq.{getD-set-same, getD-set-other}
 use borrow.Author.Tests.{ne-eqb}
 use Rattle.records.specs.Legs.{withContracts}
 use Rattle.records.specs.Lines.{sameLineSide}
-use Rattle.records.specs.Tables.{mostLegs}
+use Rattle.records.specs.Limits.{mostLegs}
 use Rattle.records.specs.declared.legs.Leg.{Leg}
 use Rattle.records.proofs.LineLaws.{line-sym}
-use Rattle.fills.specs.Links.{bucketOf, Path, Leads}
-use Rattle.fills.specs.Steps.{rowsOf, rowsTo, Live, Blank, Stand}
+use Rattle.fills.specs.Steps.Links.{bucketOf, Path, Leads}
+use Rattle.fills.specs.Steps.Standing.{rowsOf, rowsTo, Live, Blank, Stand}
 use Rattle.fills.proofs.HeldLaws.{rows-more, rows-same, length-kept, length-gone}
 use Rattle.fills.proofs.LinkLaws.{bucket-small, path-small, leads-new, leads-here, rising-new, leads-less, rising-less}
 

@@ -11,7 +11,7 @@ use Rattle.records.specs.Tables.{legsOf}
 use Rattle.records.specs.declared.legs.Leg.{Leg}
 use Rattle.records.proofs.LineLaws.{line-paid}
 use Rattle.fills.specs.Rows.{unmarked, startingLegs}
-use Rattle.fills.specs.Ledger.{Ledger, emptyLedger, counts, posted, bought, startedFrom}
+use Rattle.fills.specs.Ledger.{Ledger, emptyLedger, counts, posted, withMore, startedFrom}
 use Rattle.fills.specs.Demands.{StartingContracts}
 
 pub unpaid : Leg → Leg
@@ -59,7 +59,7 @@ posted-blind : (x : Leg) (n : ℕ) (g : Ledger) → Blind g → Blind (posted x 
 unfolding posted unpaid
 posted-blind x n g b y = rw (line-paid x y 0, b y)
 
-bought-same : (x : Leg) (g : Ledger) → Blind g → bought (unpaid x) g ≡ bought x g
+bought-same : (x : Leg) (g : Ledger) → Blind g → withMore (unpaid x) g ≡ withMore x g
 unfolding unpaid withPaid
 bought-same x g b =
     posted-same x (g .held (unpaid x) + x .contracts .0) g b ∙ ap (λ (n : ℕ). posted x (n + x .contracts .0) g) (b x)
@@ -69,7 +69,7 @@ unfolding startedFrom
 started-same g [] b = refl
 started-same g (x ∷ xs) b =
     ap (λ (t : Ledger). startedFrom t (map unpaid xs)) (bought-same x g b)
-    ∙ started-same (bought x g) xs (posted-blind x (g .held x + x .contracts .0) g b)
+    ∙ started-same (withMore x g) xs (posted-blind x (g .held x + x .contracts .0) g b)
 
 pub start-same : (h : List ℕ) → startedFrom emptyLedger (startingLegs h) ≡ startedFrom emptyLedger (legsOf h)
 start-same h = ap (startedFrom emptyLedger) (starting-is h) ∙ started-same emptyLedger (legsOf h) (λ x. refl)

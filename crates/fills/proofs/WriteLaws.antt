@@ -8,7 +8,7 @@ use Rattle.records.specs.Written.{putAt}
 use Rattle.records.specs.declared.legs.Leg.{Leg}
 use Rattle.records.proofs.PutLaws.{put-empty, put-put}
 use Rattle.fills.specs.Rows.{bytesOf}
-use Rattle.fills.specs.Steps.{rowAt, rowsOf, rowsTo}
+use Rattle.fills.specs.Steps.Standing.{rowAt, rowsOf, rowsTo}
 use Rattle.fills.proofs.BytesLaws.{bytes-append, length-bytes}
 use Rattle.fills.proofs.HeldLaws.{rows-next}
 

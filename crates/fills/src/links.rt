@@ -4,7 +4,7 @@
 ghost use mathlib.Core.Path.{_≡_};
 ghost use Prim.Native.Nat.{_≤_, _<_};
 ghost use lib.ListN.{length};
-ghost use Rattle.fills.specs.Links.{legIn, bucketOf, isRow, Rising, Ended};
+ghost use Rattle.fills.specs.Steps.Links.{legInPlay, bucketOf, Rising, EndedAt, mostRecords, mostLinks};
 use crate::fill::MOST_FILLS;
 use records::Leg;
 use records::MOST_LEGS;
@@ -19,7 +19,7 @@ pub(crate) const MOST_LINKS: usize = BUCKETS + MOST_RECORDS;
 
 // Record k of both tables: a holding without its mark, or a fill.
 pub(crate) fn leg_in(holdings: &[u8], fills: &[u8], k: usize) -> Leg
-    ensures { λ r. ⌜ r ≡ legIn (now (holdings .entry)) (now (fills .entry)) k ⌝ }
+    ensures { λ r. ⌜ r ≡ legInPlay (now (holdings .entry)) (now (fills .entry)) k ⌝ }
 {
     let before = holdings.len() / RECORD_BYTES;
     if k < before {
@@ -51,9 +51,9 @@ fn bucket_of(leg: Leg) -> usize
 // The link to the row of record k's line and side, or the free one at the end of its bucket. The record is read here,
 // so that its fields are never put together in memory.
 pub(crate) fn link_of(holdings: &[u8], fills: &[u8], k: usize, held: &[u32], links: &[u16]) -> usize
-    requires { ⌜ (1280 ≤ length (now held)) × (2304 ≤ length (now links)) ⌝ }
-    requires { ⌜ Rising 1280 (now links) ⌝ }
-    ensures { λ r. ⌜ Ended (isRow (legIn (now (holdings .entry)) (now (fills .entry))) (now (held .entry)) (legIn (now (holdings .entry)) (now (fills .entry)) k)) (now (links .entry)) (bucketOf (legIn (now (holdings .entry)) (now (fills .entry)) k)) r ⌝ }
+    requires { ⌜ (mostRecords ≤ length (now held)) × (mostLinks ≤ length (now links)) ⌝ }
+    requires { ⌜ Rising mostRecords (now links) ⌝ }
+    ensures { λ r. ⌜ EndedAt (now (holdings .entry)) (now (fills .entry)) (now (held .entry)) (now (links .entry)) k r ⌝ }
 {
     let leg = leg_in(holdings, fills, k);
     let mut link = bucket_of(leg);

@@ -7,7 +7,8 @@ use lib.Seq.{drop-drop, take-all, take-append-le, drop-append-le}
 use native.Mathlib.Nat.{mul-add, mul-one, mul-zero, sub-zero, add-sub-cancel-left, not-suc-le-zero, le-of-suc-le-suc, mul-suc, add-comm, suc-add, zero-add}
 use native.Mathlib.Omega.{arith}
 use Rattle.records.specs.Lists.{All}
-use Rattle.records.specs.Chunks.{chunks, chunkAt, chunksFrom, recordsOf}
+use Rattle.records.specs.Steps.Rest.{chunksFrom}
+use Rattle.records.specs.Chunks.{chunks, chunkAt, recordsOf}
 use Rattle.records.proofs.ListLaws.{all-at, all-take, all-drop}
 
 pub chunks-all : (size n : ℕ) (xs : List ℕ) → chunksFrom size n 0 xs ≡ chunks size n xs

@@ -7,7 +7,8 @@ use lib.ListN.{length}
 use borrow.Author.Tests.{le-leb}
 use Rattle.records.specs.Bytes.{leAt, leBytes, zeroIn}
 use Rattle.records.specs.Lists.{allOf}
-use Rattle.records.specs.Claims.{mostMills, claimFields, claimOf, claimBytes, goodClaim}
+use Rattle.records.specs.Limits.{mostMills}
+use Rattle.records.specs.Claims.{claimFields, claimOf, claimBytes, goodClaim}
 use Rattle.records.specs.declared.claims.Claim.{Claim}
 use Rattle.records.proofs.LegLaws.{two, four}
 use Rattle.records.proofs.TableLaws.{ClaimRanges}

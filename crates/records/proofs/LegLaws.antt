@@ -11,7 +11,8 @@ use Rattle.records.specs.Bytes.{leAt, leBytes, zeroIn}
 use Rattle.records.specs.Lists.{allOf}
 use Rattle.records.specs.Within.{within}
 use Rattle.records.specs.Dates.{realDate}
-use Rattle.records.specs.Legs.{mostContracts, contractsFrom, withGroup, withContracts, withPaid, legFields, legOf, legBytes, termsInRange, inRange, goodLeg}
+use Rattle.records.specs.Limits.{mostContracts}
+use Rattle.records.specs.Legs.{contractsFrom, withGroup, withContracts, withPaid, legFields, legOf, legBytes, termsInRange, inRange, goodLeg}
 use Rattle.records.specs.declared.legs.Leg.{Leg}
 
 pub two : (n : ℕ) → n % 256 + 256 * (n / 256 + 256 * 0) ≡ n

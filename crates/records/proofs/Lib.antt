@@ -5,6 +5,8 @@ pub mod Measures
 pub mod ChunkLaws
 pub mod JoinLaws
 pub mod PutLaws
+pub mod Cuts
+pub mod LowestLaws
 -- numbers and records as bytes
 pub mod ByteLaws
 pub mod NumberLaws

@@ -7,7 +7,7 @@ use lib.Dec.{eqb}
 use borrow.Author.Tests.{eq-eqb}
 use Rattle.records.specs.Legs.{withContracts, withPaid}
 use Rattle.records.specs.Lists.{same}
-use Rattle.records.specs.Lines.{lineSideOf, sameLine, sameLineSide}
+use Rattle.records.specs.Lines.{legLineSide, sameLine, sameLineSide}
 use Rattle.records.specs.declared.counts.Contracts.{Contracts}
 use Rattle.records.specs.declared.legs.Leg.{Leg}
 use Rattle.records.proofs.SameLaws.{same-refl, same-true, true-same, same-sym, same-swap}
@@ -19,23 +19,23 @@ pub line-rest : (a b : Leg) → a .strike ≡ b .strike → a .expiry ≡ b .exp
 unfolding sameLine same
 line-rest a b s e = simp (eq-eqb (a .strike) (b .strike) s, eq-eqb (a .expiry) (b .expiry) e, and-true, and-assoc)
 
-pub same? : (x y : Leg) → (sameLineSide x y ≡ true) ↔ (lineSideOf x ≡ lineSideOf y)
+pub same? : (x y : Leg) → (sameLineSide x y ≡ true) ↔ (legLineSide x ≡ legLineSide y)
 unfolding sameLineSide
-same? x y = (same-true (lineSideOf x) (lineSideOf y), true-same (lineSideOf x) (lineSideOf y))
+same? x y = (same-true (legLineSide x) (legLineSide y), true-same (legLineSide x) (legLineSide y))
 
 -- ---- one line and side is the same for all of it
 
 pub line-refl : (x : Leg) → sameLineSide x x ≡ true
 unfolding sameLineSide
-line-refl x = same-refl (lineSideOf x)
+line-refl x = same-refl (legLineSide x)
 
 pub line-sym : (x y : Leg) → sameLineSide x y ≡ sameLineSide y x
 unfolding sameLineSide
-line-sym x y = same-sym (lineSideOf x) (lineSideOf y)
+line-sym x y = same-sym (legLineSide x) (legLineSide y)
 
 pub line-swap : (x y z : Leg) → sameLineSide y z ≡ true → sameLineSide x y ≡ sameLineSide x z
 unfolding sameLineSide
-line-swap x y z e = same-swap (lineSideOf x) (lineSideOf y) (lineSideOf z) e
+line-swap x y z e = same-swap (legLineSide x) (legLineSide y) (legLineSide z) e
 
 pub swap-line : (x y z : Leg) → sameLineSide x y ≡ true → sameLineSide x z ≡ sameLineSide y z
 swap-line x y z e = line-sym x z ∙ line-swap z x y e ∙ line-sym z y

@@ -7,6 +7,7 @@ use native.Mathlib.Decide.{ℕ-discrete}
 use native.Mathlib.Omega.{arith}
 use Rattle.records.specs.Lists.{All}
 use Rattle.records.specs.Order.{Check, firstOf, askEach, groups}
+use Rattle.records.specs.declared.refusals.Refusal.{Refusal}
 use Rattle.records.specs.declared.refusals.Fault.the-variants.{Nothing, Is}
 use Rattle.records.proofs.ListLaws.{all-append}
 
@@ -26,6 +27,16 @@ pub unclear : (cs : List Check) → Pass cs → firstOf cs ≡ Nothing
 unfolding firstOf
 unclear [] a = refl
 unclear (c ∷ cs) a = rw (a .0) (unclear cs (a .1))
+
+-- what holds of the refusal of each check that fails holds of the first
+pub first-all : (P : Refusal → Type 0) (cs : List Check) → All (λ c. c .holds ≡ false → P (c .refusal)) cs → (r : Refusal) → firstOf cs ≡ Is r → P r
+unfolding firstOf
+first-all P [] a r e = let z : _≡_ {A = ℕ} 0 1 = cc in absurd (omega arith)
+first-all P (c ∷ cs) a r e = go (c .holds) refl e (first-all P cs (a .1) r)
+  where
+    go : (b : Bool) → c .holds ≡ b → cond b (firstOf cs) (Is (c .refusal)) ≡ Is r → (firstOf cs ≡ Is r → P r) → P r
+    go true q x f = f x
+    go false q x f = let s : c .refusal ≡ r = cc in rw s at (a .0 q)
 
 pub pass-left : (a b : List Check) → Pass (a ++ b) → Pass a
 pass-left [] b p = tt

@@ -1,5 +1,6 @@
 -- What a lent slice holds after writes: a loop that writes one element at a time, and one write after another.
 use mathlib.Core.Path.{_≡_, refl, sym, ap, _∙_}
+use mathlib.Core.Bool.{Bool, true, false}
 use mathlib.Core.List.{List, [], _∷_, _++_, append-assoc}
 use Prim.Native.Nat.{ℕ, suc, _+_, _≤_, _<_}
 use native.Mathlib.Nat.{add-assoc, zero-add}
@@ -7,8 +8,9 @@ use native.Mathlib.Numerals.{add-one}
 use native.Mathlib.Omega.{arith}
 use lib.ListN.{length, take, drop, getD, set, length-append, length-take, length-drop}
 use lib.Seq.{paste-zero, paste-suc, take-all, take-at, drop-at, drop-drop, drop-append-add, length-take-le, set-split}
+use borrow.Author.Tests.{le-leb, lt-leb}
 use borrow.Rule.Slice.PartMut.{putMid}
-use Rattle.records.specs.Written.{putAt}
+use Rattle.records.specs.Written.{putAt, putInRoom, leftAfter, StandsFirst}
 
 module _ {A : Type 0} where
   -- a loop that writes the elements of s one by one: where it begins, a turn, and where it ends
@@ -88,3 +90,35 @@ module _ {A : Type 0} where
   pub put-past : (d s : List A) → drop (length s) (putAt d 0 s) ≡ drop (length s) d
   unfolding putAt
   put-past d s = drop-at s (drop (0 + length s) d) (length s) refl ∙ simp zero-add
+
+  -- a list as long as the slice is all that then stands there
+  pub put-whole : (d s : List A) → length s ≡ length d → putAt d 0 s ≡ s
+  put-whole d s e = sym (take-all (length s) (putAt d 0 s) (rw (length-putAt d 0 s (omega arith)) (omega arith))) ∙ put-front d s
+
+  -- ---- where there is room, and where there is none
+
+  pub put-room : (d : List A) (at : ℕ) (s : List A) → at + length s ≤ length d → putInRoom d at s ≡ putAt d at s
+  unfolding putInRoom
+  put-room d at s h = rw (le-leb (at + length s) (length d) h)
+
+  pub put-no-room : (d : List A) (at : ℕ) (s : List A) → length d < at + length s → putInRoom d at s ≡ d
+  unfolding putInRoom
+  put-no-room d at s h = rw (lt-leb (at + length s) (length d) h)
+
+  -- ---- what a call leaves in a lent slice
+
+  pub left-stands : (d s : List A) → StandsFirst s d (leftAfter true s d)
+  left-stands d s = (put-front d s, put-past d s)
+
+  -- the slice is as long as it was, whether the call answered or not
+  pub left-length : (answered : Bool) (s d : List A) → (answered ≡ true → length s ≤ length d)
+      → length (leftAfter answered s d) ≡ length d
+  left-length true s d room = length-putAt d 0 s (omega (arith, room refl))
+  left-length false s d room = refl
+
+  -- of a call that answered, and of one that did not, where the test is not yet worked out
+  pub left-answered : (answered : Bool) (s d : List A) → answered ≡ true → leftAfter answered s d ≡ putAt d 0 s
+  left-answered answered s d e = rw e refl
+
+  pub left-refused : (answered : Bool) (s d : List A) → answered ≡ false → leftAfter answered s d ≡ d
+  left-refused answered s d e = rw e refl

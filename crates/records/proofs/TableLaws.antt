@@ -12,8 +12,9 @@ use Rattle.records.specs.Lists.{All}
 use Rattle.records.specs.Chunks.{chunkAt, recordsOf}
 use Rattle.records.specs.Within.{within}
 use Rattle.records.specs.Dates.{realDate}
-use Rattle.records.specs.Legs.{mostContracts, legOf, termsInRange, inRange, goodLeg, units}
-use Rattle.records.specs.Claims.{mostMills, claimOf, goodClaim}
+use Rattle.records.specs.Limits.{mostContracts, mostMills}
+use Rattle.records.specs.Legs.{legOf, termsInRange, inRange, goodLeg, units}
+use Rattle.records.specs.Claims.{claimOf, goodClaim}
 use Rattle.records.specs.Order.{firstOf}
 use Rattle.records.specs.Tables.{goodRecord, limitOf, tableNumber, wholeTable, fieldChecks, legsOf, claimsOf}
 use Rattle.records.specs.declared.legs.Leg.{Leg}

@@ -1,8 +1,12 @@
 -- No two different outcomes satisfy a promise of this crate: a law for each public function, named after it, with a part for
 -- the result and one for each lent slice. A law cites the contract itself: one that settles less is refused here.
+use mathlib.Core.Path.{refl}
 use Rattle.records.specs.OneOutcome.{OneOutcome}
 use Rattle.records.proofs.OutcomeLaws.{by-parts}
 use Rattle.records.proofs as records
+
+copy-to-unique : OneOutcome records.copy_to.ended records.copy_to.Reads.Learnt
+copy-to-unique = by-parts λ κs a o p x y. (refl, cc)
 
 check-table-unique : OneOutcome records.check_table.ended records.check_table.Reads.Learnt
 check-table-unique = by-parts λ κs a o p x y. cc
@@ -55,9 +59,6 @@ same-line-side-unique = by-parts λ κs a o p x y. cc
 real-date-unique : OneOutcome records.real_date.ended records.real_date.Reads.Learnt
 real-date-unique = by-parts λ κs a o p x y. cc
 
-leap-year-unique : OneOutcome records.leap_year.ended records.leap_year.Reads.Learnt
-leap-year-unique = by-parts λ κs a o p x y. cc
-
 contracts-of-unique : OneOutcome records.counts.Contracts.of.ended records.counts.Contracts.of.Reads.Learnt
 contracts-of-unique = by-parts λ κs a o p x y. cc
 
@@ -69,9 +70,6 @@ contracts-number-unique = by-parts λ κs a o p x y. cc
 
 contracts-plus-unique : OneOutcome records.counts.Contracts.plus.ended records.counts.Contracts.plus.Reads.Learnt
 contracts-plus-unique = by-parts λ κs a o p x y. cc
-
-contracts-less-unique : OneOutcome records.counts.Contracts.less.ended records.counts.Contracts.less.Reads.Learnt
-contracts-less-unique = by-parts λ κs a o p x y. cc
 
 units-none-unique : OneOutcome records.counts.Units.none.ended records.counts.Units.none.Reads.Learnt
 units-none-unique = by-parts λ κs a o p x y. cc

@@ -5,7 +5,6 @@ use mathlib.Core.List.{List, [], _∷_}
 use lib.Dec.{eqb}
 use lib.ListN.{getD, take, drop}
 use Rattle.records.specs.Lists.{All, allOf}
-use Rattle.records.specs.declared.fields.Four.{Four}
 
 -- the number whose bytes, lowest first, are the `width` entries of xs from `at` on; past the end of xs they are zero
 unfoldable pub leAt : List ℕ → ℕ → ℕ → ℕ
@@ -21,10 +20,6 @@ leBytes n (suc (suc width)) = n % 256 ∷ leBytes (n / 256) (suc width)
 -- each entry is a byte, as in every slice of bytes
 abbrev pub AllBytes : List ℕ → Type 0
 AllBytes xs = All (λ x. x < 256) xs
-
--- four bytes that stand together by value
-abbrev pub fourOf : Four → List ℕ
-fourOf f = f .0 ∷ f .1 ∷ f .2 ∷ f .3 ∷ []
 
 abbrev pub isZero : ℕ → Bool
 isZero x = eqb x 0

@@ -1,10 +1,11 @@
 -- A leg record of 32 bytes: document 01's table of fields, row by row.
-use Prim.Native.Nat.{ℕ, _+_, _-_, _*_, min}
+use Prim.Native.Nat.{ℕ, _+_, _*_, min}
 use mathlib.Core.Bool.{Bool, _&&_, cond}
 use mathlib.Core.List.{List, [], _∷_, _++_}
 use lib.Dec.{eqb, leb}
 use lib.ListN.{length, replicate}
 use Rattle.records.specs.Bytes.{leAt, leBytes, zeroIn}
+use Rattle.records.specs.Limits.{recordBytes, mostContracts}
 use Rattle.records.specs.Within.{within}
 use Rattle.records.specs.Dates.{realDate}
 use Rattle.records.specs.declared.counts.Contracts.{Contracts}
@@ -34,7 +35,7 @@ legFields xs =
 
 -- the fields of a part of at least 32 bytes; those of a shorter one are all zero, as of no bytes
 unfoldable pub legOf : List ℕ → Leg
-legOf xs = legFields (cond (leb 32 (length xs)) xs [])
+legOf xs = legFields (cond (leb recordBytes (length xs)) xs [])
 
 -- the 32 bytes that say these fields; the filler is zero
 unfoldable pub legBytes : Leg → List ℕ
@@ -48,10 +49,6 @@ legBytes l =
     ++ leBytes (l .contracts .0) 4
     ++ (l .settlement ∷ l .paid ∷ [])
     ++ replicate 6 0
-
--- contracts: '1 to 100,000'; of a line and side that the day's fills leave, too: 'at most 100,000 contracts' (02, [4])
-abbrev pub mostContracts : ℕ
-mostContracts = 100000
 
 -- the ranges of the rows before the expiry; the group is at most `top`
 unfoldable pub termsInRange : ℕ → Leg → Bool
@@ -76,7 +73,7 @@ inRange top l =
 
 -- 32 bytes, each field in its range, bytes 26 to 31 zero
 unfoldable pub goodLeg : ℕ → List ℕ → Bool
-goodLeg top xs = eqb (length xs) 32 && (inRange top (legOf xs) && zeroIn xs 26 31)
+goodLeg top xs = eqb (length xs) recordBytes && (inRange top (legOf xs) && zeroIn xs 26 31)
 
 -- ---- what a leg's fields mean
 
@@ -122,10 +119,6 @@ plusUnits a b = record { 0 = min (a .0 + b .0) 18446744073709551615 }
 -- added, up to the end of the type
 abbrev pub plusContracts : Contracts → Contracts → Contracts
 plusContracts a b = record { 0 = min (a .0 + b .0) 4294967295 }
-
--- what is left of a once b is taken away, down to none
-abbrev pub lessContracts : Contracts → Contracts → Contracts
-lessContracts a b = record { 0 = a .0 - b .0 }
 
 -- the same leg in another group
 unfoldable pub withGroup : Leg → ℕ → Leg

@@ -10,18 +10,18 @@ abbrev pub seriesOf : Leg → List ℕ
 seriesOf l = l .right ∷ l .strike ∷ l .expiry ∷ l .size ∷ []
 
 -- 'A line is all of type, style, market, unit size, underlying, strike, expiry', and from request [7] on settlement
-abbrev pub lineOf : Leg → List ℕ
-lineOf l = l .right ∷ l .style ∷ l .market ∷ l .size ∷ l .underlying ∷ l .strike ∷ l .expiry ∷ l .settlement ∷ []
+abbrev pub legLine : Leg → List ℕ
+legLine l = l .right ∷ l .style ∷ l .market ∷ l .size ∷ l .underlying ∷ l .strike ∷ l .expiry ∷ l .settlement ∷ []
 
 -- 'each line and side'
-abbrev pub lineSideOf : Leg → List ℕ
-lineSideOf l = l .side ∷ lineOf l
+abbrev pub legLineSide : Leg → List ℕ
+legLineSide l = l .side ∷ legLine l
 
 unfoldable pub sameLine : Leg → Leg → Bool
-sameLine a b = same (lineOf a) (lineOf b)
+sameLine a b = same (legLine a) (legLine b)
 
 unfoldable pub sameLineSide : Leg → Leg → Bool
-sameLineSide a b = same (lineSideOf a) (lineSideOf b)
+sameLineSide a b = same (legLineSide a) (legLineSide b)
 
 -- the contracts of x's line and side, summed over a table
 unfoldable pub contractsOf : Leg → List Leg → ℕ

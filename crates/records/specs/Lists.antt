@@ -1,7 +1,7 @@
 -- Sums, greatest and least values and choices over a list, and what holds of every element.
 use mathlib.Core.Bool.{Bool, true, false, cond, _&&_}
 use mathlib.Core.List.{List, [], _∷_}
-use Prim.Native.Nat.{ℕ, _+_, min, max}
+use Prim.Native.Nat.{ℕ, _+_, _<_, min, max}
 use lib.Dec.{eqb}
 
 -- whether two lists are one
@@ -46,3 +46,8 @@ module _ {A : Type 0} where
   abbrev pub All : (A → Type 0) → List A → Type 0
   All P [] = Unit {0}
   All P (x ∷ xs) = P x × All P xs
+
+-- each number is below those after it
+abbrev pub Ascending : List ℕ → Type 0
+Ascending [] = Unit {0}
+Ascending (x ∷ xs) = All (λ y. x < y) xs × Ascending xs

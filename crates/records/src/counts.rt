@@ -1,7 +1,7 @@
 // A count of contracts never stands in for a count of underlying units: each is a type of its own
 // whose field other crates cannot reach, and only multiplying by unit size leads from one to the other.
 ghost use mathlib.Core.Path.{_≡_};
-ghost use Rattle.records.specs.Legs.{contractsFrom, unitsOf, plusUnits, noUnits, plusContracts, lessContracts};
+ghost use Rattle.records.specs.Legs.{contractsFrom, unitsOf, plusUnits, noUnits, plusContracts};
 
 pub struct Contracts(pub(crate) u32);
 
@@ -38,18 +38,6 @@ impl Contracts {
             return Contracts(a + added);
         }
         Contracts(4294967295)
-    }
-
-    // What is left of a count once another is taken away, down to none.
-    pub fn less(self, taken: Contracts) -> Contracts
-        ensures { λ r. ⌜ r ≡ lessContracts self taken ⌝ }
-    {
-        let a = self.0;
-        let b = taken.0;
-        if b <= a {
-            return Contracts(a - b);
-        }
-        Contracts(0)
     }
 }
 

@@ -6,7 +6,7 @@ use crate::within::is_within;
 
 pub(crate) const FIRST_DATE: u32 = 20000101;
 
-pub fn leap_year(year: u32) -> bool
+fn leap_year(year: u32) -> bool
     ensures { λ r. ⌜ r ≡ leapYear year ⌝ }
 {
     (year % 4 == 0) & (!(year % 100 == 0) | (year % 400 == 0))

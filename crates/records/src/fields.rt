@@ -2,7 +2,8 @@
 ghost use mathlib.Core.Path.{_≡_};
 ghost use Prim.Native.Nat.{_+_, _≤_, _<_};
 ghost use lib.ListN.{length};
-ghost use Rattle.records.specs.Bytes.{leAt, leBytes, fourOf};
+ghost use Rattle.records.specs.Steps.Four.{fourOf};
+ghost use Rattle.records.specs.Bytes.{leAt, leBytes};
 
 pub(crate) fn u8_in(part: &[u8], at: usize) -> u8
     requires { ⌜ at + 1 ≤ length (now part) ⌝ }

@@ -22,20 +22,21 @@ use Rattle.records.proofs.PutLaws.{put-front}
 use Rattle.records.proofs.JoinLaws.{length-flatten, cut-joined}
 use Rattle.records.proofs.TableLaws.{whole}
 use Rattle.records.specs.Tables.{wholeTable, wholeTables}
+use Rattle.blocks.specs.Sizes.{mostFileBytes}
 use Rattle.blocks.specs.File.{tableOf, blocksOf, tablesOf, tablesIn, fileOf, withinLimits}
 use Rattle.blocks.specs.Reader.{copied}
-use Rattle.blocks.specs.Steps.{Sized}
+use Rattle.blocks.specs.Steps.Bounds.{Sized}
 use Rattle.blocks.specs.Writer.{writeChecks}
 use Rattle.blocks.specs.declared.forms.Origin.{Origin}
 use Rattle.blocks.proofs.Laws.{copied-room}
-use Rattle.salvage.specs.Pieces.{mostBytes, pieceCount, piecesOf}
+use Rattle.salvage.specs.Pieces.{pieceCount, piecesOf}
 use Rattle.salvage.specs.Kept.{leadOf, originFor, dropNumber, isKept, keptOf, droppedOf, keptIn, droppedIn, soundFile}
-use Rattle.salvage.specs.Calls.{startChecks, roomChecks, endChecks, salvageChecks, answered, salvageOf}
+use Rattle.salvage.specs.Calls.{salvageStart, salvageRoom, salvageEnd, salvageChecks, salvageAnswer, salvageCall}
 use Rattle.salvage.specs.declared.pieces.Lead.the-variants.{Of, Missing}
 use Rattle.salvage.specs.declared.calls.Salvaged.the-variants.{Refused}
 use Rattle.salvage.proofs.PieceLaws.{lead-kept, missing-kept}
 use Rattle.salvage.proofs.KeptTables.{kept-all, kept-sound, limits-whole, writes-kept}
-use Rattle.salvage.specs.Steps.{AllKept}
+use Rattle.salvage.specs.Steps.AllKept.{AllKept}
 
 -- ---- what was written to the front of a slice, taken from there
 
@@ -74,7 +75,7 @@ dropped-few lead i (b ∷ bs) =
     rw (length-append (entry i (dropNumber lead b)) (droppedOf lead (i + 1) bs))
     (omega (arith, one-entry i (dropNumber lead b), dropped-few lead (i + 1) bs))
 
-pub pieces-few : (bytes : List ℕ) → length bytes ≤ mostBytes → length (piecesOf bytes) ≤ 39
+pub pieces-few : (bytes : List ℕ) → length bytes ≤ mostFileBytes → length (piecesOf bytes) ≤ 39
 pieces-few bytes h = omega (arith, length-chunks 512 (pieceCount (length bytes)) bytes)
 
 -- ---- what is saved: the bytes of the kept pieces, and the list of the others
@@ -132,29 +133,29 @@ module _ (bytes : List ℕ) (lead : Origin) (e : leadOf (piecesOf bytes) ≡ Of 
 -- ---- by its refusals
 
 module _ (bytes : List ℕ) (o i n : ℕ) where
-  pub salvage-1 : within 1 mostBytes (length bytes) ≡ false → salvageOf bytes o i n ≡ Refused (refuse 1 0 0)
-  unfolding salvageOf salvageChecks startChecks firstOf
+  pub salvage-1 : within 1 mostFileBytes (length bytes) ≡ false → salvageCall bytes o i n ≡ Refused (refuse 1 0 0)
+  unfolding salvageCall salvageChecks salvageStart firstOf
   salvage-1 e = rw e
 
-  module _ (w : within 1 mostBytes (length bytes) ≡ true) where
-    pub salvage-2 : leadOf (piecesOf bytes) ≡ Missing → salvageOf bytes o i n ≡ Refused (refuse 2 0 0)
-    unfolding salvageOf salvageChecks startChecks firstOf keptIn
+  module _ (w : within 1 mostFileBytes (length bytes) ≡ true) where
+    pub salvage-2 : leadOf (piecesOf bytes) ≡ Missing → salvageCall bytes o i n ≡ Refused (refuse 2 0 0)
+    unfolding salvageCall salvageChecks salvageStart firstOf keptIn
     salvage-2 e = rw (w, missing-kept (piecesOf bytes) (originFor bytes) e)
 
     pub salvage-rest : 1 ≤ length (keptIn bytes)
-        → salvageOf bytes o i n
-        ≡ answered (firstOf (endChecks (keptIn bytes) (length (soundFile bytes)) (length (droppedIn bytes)) o i n)) (length (soundFile bytes)) (length (droppedIn bytes))
-    unfolding salvageOf salvageChecks startChecks firstOf
+        → salvageCall bytes o i n
+        ≡ salvageAnswer (firstOf (salvageEnd (keptIn bytes) (length (soundFile bytes)) (length (droppedIn bytes)) o i n)) (length (soundFile bytes)) (length (droppedIn bytes))
+    unfolding salvageCall salvageChecks salvageStart firstOf
     salvage-rest h = rw (w, ne-eqb (length (keptIn bytes)) 0 (λ z. omega (arith, h, z)))
 
 -- 3, then 17
 module _ (bs : List (List ℕ)) (bytes entries o i n : ℕ) where
-  pub end-3 : withinLimits bs ≡ false → firstOf (endChecks bs bytes entries o i n) ≡ Is (refuse 3 0 0)
-  unfolding endChecks firstOf
+  pub end-3 : withinLimits bs ≡ false → firstOf (salvageEnd bs bytes entries o i n) ≡ Is (refuse 3 0 0)
+  unfolding salvageEnd firstOf
   end-3 e = rw e
 
-  pub end-rest : withinLimits bs ≡ true → firstOf (endChecks bs bytes entries o i n) ≡ firstOf (roomChecks bytes entries o i n)
-  unfolding endChecks firstOf
+  pub end-rest : withinLimits bs ≡ true → firstOf (salvageEnd bs bytes entries o i n) ≡ firstOf (salvageRoom bytes entries o i n)
+  unfolding salvageEnd firstOf
   end-rest e = rw e
 
 pub within-is : (low high x : ℕ) → low ≤ x → x ≤ high → within low high x ≡ true
@@ -189,8 +190,8 @@ pub copied-front : (kind : Kind) (file d table : List ℕ) (n : ℕ) → n ≡ l
 copied-front kind file d table n e c h =
     front-is d table (tableOf kind (tablesIn file)) n e (c ∙ copied-room kind file d (omega (arith, e, h)))
 
-pub room-pass : (bytes entries o i n : ℕ) → firstOf (roomChecks bytes entries o i n) ≡ Nothing → (bytes ≤ o) × (entries ≤ i) × (entries ≤ n)
-unfolding roomChecks
+pub room-pass : (bytes entries o i n : ℕ) → firstOf (salvageRoom bytes entries o i n) ≡ Nothing → (bytes ≤ o) × (entries ≤ i) × (entries ≤ n)
+unfolding salvageRoom
 room-pass bytes entries o i n e =
     let p = clear _ e in
     let q = and-eq-true-iff (leb entries i) (leb entries n) .0 (p .1 .0) in

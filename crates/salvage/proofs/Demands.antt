@@ -15,7 +15,9 @@ use Rattle.records.specs.declared.refusals.Fault.{Fault}
 use Rattle.records.specs.declared.refusals.Fault.the-variants.{Nothing, Is}
 use Rattle.records.proofs.ListLaws.{all-map}
 use Rattle.records.proofs.PassLaws.{clear}
-use Rattle.records.proofs.PutLaws.{put-front, put-past}
+use Rattle.records.proofs.PutLaws.{put-front, left-stands}
+use Rattle.records.specs.Written.{leftAfter}
+use Rattle.blocks.specs.Sizes.{mostFileBytes}
 use Rattle.blocks.specs.Forms.{settled}
 use Rattle.blocks.specs.Block.{formOf, originOf}
 use Rattle.blocks.specs.File.{tablesOf, tablesIn, originIn, fileOf, withinLimits}
@@ -23,11 +25,11 @@ use Rattle.blocks.specs.RoundTrips.{Reads, Writes}
 use Rattle.blocks.specs.declared.forms.Origin.{Origin}
 use Rattle.blocks.specs.declared.answers.Alone.the-variants.{Sound}
 use Rattle.blocks.proofs.Laws.{kept-kept, read-writes-back, written-reads-back, is-sound}
-use Rattle.salvage.specs.Pieces.{mostBytes, piecesOf}
+use Rattle.salvage.specs.Pieces.{piecesOf}
 use Rattle.salvage.specs.Kept.{originFor, keptIn, droppedIn, soundFile}
-use Rattle.salvage.specs.Calls.{startChecks, roomChecks, endChecks, salvageChecks, answered, salvageOf, left}
-use Rattle.salvage.specs.Demands.{ComesOutSound, KeptAreSound, UndamagedSame, TwiceSame, Leaves, LeftBy, SalvageLeaves}
-use Rattle.salvage.specs.Steps.{AllKept}
+use Rattle.salvage.specs.Calls.{salvageStart, salvageRoom, salvageEnd, salvageChecks, salvageAnswer, salvageCall, hasSaved}
+use Rattle.salvage.specs.Demands.{ComesOutSound, KeptAreSound, UndamagedSame, TwiceSame, LeftBySalvage, SalvageLeaves}
+use Rattle.salvage.specs.Steps.AllKept.{AllKept}
 use Rattle.salvage.specs.declared.calls.Salvaged.{Salvaged}
 use Rattle.salvage.specs.declared.calls.Salvaged.the-variants.{Saved, Refused}
 use Rattle.salvage.proofs.SoundLaws.{kept-is}
@@ -37,7 +39,7 @@ use Rattle.salvage.proofs.Undamaged.{all-kept, none-dropped, some-block
 
 -- ---- what a salvage that is not refused says
 
-answered-saved : (x : Fault) (a b n k : ℕ) → answered x a b ≡ Saved n k → (x ≡ Nothing) × (a ≡ n) × (b ≡ k)
+answered-saved : (x : Fault) (a b n k : ℕ) → salvageAnswer x a b ≡ Saved n k → (x ≡ Nothing) × (a ≡ n) × (b ≡ k)
 answered-saved Nothing a b n k e = (refl, cc, cc)
 answered-saved (Is r) a b n k e = absurd (let z : _≡_ {A = ℕ} 0 1 = cc in omega arith)
 
@@ -51,11 +53,11 @@ record Passes (bytes : List ℕ) (n k : ℕ) : Type 0 where
   size : length (soundFile bytes) ≡ n
   entries : length (droppedIn bytes) ≡ k
 
-saved-passes : (bytes : List ℕ) (o i m n k : ℕ) → salvageOf bytes o i m ≡ Saved n k → Passes bytes n k
-unfolding salvageOf salvageChecks startChecks endChecks
+saved-passes : (bytes : List ℕ) (o i m n k : ℕ) → salvageCall bytes o i m ≡ Saved n k → Passes bytes n k
+unfolding salvageCall salvageChecks salvageStart salvageEnd
 saved-passes bytes o i m n k e =
-    let start = startChecks (length bytes) (keptIn bytes) in
-    let end = endChecks (keptIn bytes) (length (soundFile bytes)) (length (droppedIn bytes)) o i m in
+    let start = salvageStart (length bytes) (keptIn bytes) in
+    let end = salvageEnd (keptIn bytes) (length (soundFile bytes)) (length (droppedIn bytes)) o i m in
     let x = answered-saved (firstOf (start ++ end)) (length (soundFile bytes)) (length (droppedIn bytes)) n k e in
     let p = clear (start ++ end) (x .0) in
     record { some = not-none (length (keptIn bytes)) (p .1 .0); limits = p .1 .1 .0; size = x .1; entries = x .2 }
@@ -110,11 +112,11 @@ module _ (f : List ℕ) (r : Reads f) (back : fileOf (originIn f) (tablesIn f) �
   same-out : soundFile f ≡ f
   same-out = sound-again f r ∙ back
 
-  saved-same : salvageOf f o i m ≡ Saved (length f) 0
-  unfolding roomChecks firstOf
+  saved-same : salvageCall f o i m ≡ Saved (length f) 0
+  unfolding salvageRoom firstOf
   saved-same =
       let few = bytes-few f r in
-      let within = within-is 1 mostBytes (length f) (few .0) (few .1) in
+      let within = within-is 1 mostFileBytes (length f) (few .0) (few .1) in
       let some : 1 ≤ length (keptIn f) = rw (all-kept f r) (some-blocks f r) in
       salvage-rest f o i m within some
       ∙ rw (
@@ -134,28 +136,22 @@ undamaged-same f a r o i m h =
 -- ---- a second salvage
 
 twice-same : TwiceSame
-unfolding left
 twice-same bytes out i m n k e room x y h =
     let p = saved-passes bytes (length out) i m n k e in
     let f = soundFile bytes in
     let r = sound-out bytes n k p .0 in
     let back = sound-back bytes n k p in
     let fits : length f ≤ room = omega (arith, h, p .size) in
-    let file : take n (left (Saved n k) f out) ≡ f = rw (← (p .size)) (put-front out f) in
+    let file : take n (leftAfter (hasSaved (Saved n k)) f out) ≡ f = rw (← (p .size)) (put-front out f) in
     rw (file, ← (p .size)) (saved-same f r back room x y fits, same-out f r back room x y fits, none-dropped f r)
 
 -- ---- lent memory
 
-leaves-list : (n k : ℕ) (entries d : List ℕ) → Leaves entries d (left (Saved n k) entries d)
-unfolding left
-leaves-list n k entries d = (put-front d entries, put-past d entries)
-
 salvage-leaves : SalvageLeaves
-unfolding left
-salvage-leaves bytes d i m = go (salvageOf bytes (length d) (length i) (length m)) refl
+salvage-leaves bytes d i m = go (salvageCall bytes (length d) (length i) (length m)) refl
   where
-    go : (r : Salvaged) → salvageOf bytes (length d) (length i) (length m) ≡ r → LeftBy r bytes d i m
+    go : (r : Salvaged) → salvageCall bytes (length d) (length i) (length m) ≡ r → LeftBySalvage r bytes d i m
     go (Saved n k) e =
         let p = saved-passes bytes (length d) (length i) (length m) n k e in
-        (p .size, p .entries, leaves-list n k (soundFile bytes) d, leaves-list n k (indicesOf (droppedIn bytes)) i, leaves-list n k (numbersOf (droppedIn bytes)) m)
+        (p .size, p .entries, left-stands d (soundFile bytes), left-stands i (indicesOf (droppedIn bytes)), left-stands m (numbersOf (droppedIn bytes)))
     go (Refused r) e = (refl, refl, refl)

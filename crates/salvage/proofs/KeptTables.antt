@@ -16,14 +16,14 @@ use Rattle.records.proofs.ListLaws.{all-map}
 use Rattle.records.proofs.PassLaws.{Pass, unclear}
 use Rattle.blocks.specs.Forms.{named}
 use Rattle.blocks.specs.Block.{originOf, kindOf}
-use Rattle.blocks.specs.File.{countAs, recordsAs, joined, tablesOf, withinLimits}
+use Rattle.blocks.specs.File.{countAs, recordsAs, joined, tablesOf, withinLimits, fieldsOf}
 use Rattle.blocks.specs.Alone.{ownTables}
 use Rattle.blocks.specs.Writer.{takenTables, writeChecks}
-use Rattle.blocks.specs.Steps.{Sized}
+use Rattle.blocks.specs.Steps.Bounds.{Sized}
 use Rattle.blocks.specs.declared.forms.Origin.{Origin}
-use Rattle.blocks.proofs.Laws.{kind-from, shape-is, recordChecks, length-joined, some-not-empty, GoodRecords, pass-good, good-pass, table-of, own-records, good-joined, SoundAlone, sound-sized}
+use Rattle.blocks.proofs.Laws.{kind-from, shape-is, length-joined, some-not-empty, GoodRecords, pass-good, good-pass, table-of, own-records, good-joined, SoundAlone, sound-sized}
 use Rattle.salvage.specs.Kept.{dropNumber, isKept, keptOf}
-use Rattle.salvage.specs.Steps.{AllKept}
+use Rattle.salvage.specs.Steps.AllKept.{AllKept}
 use Rattle.salvage.proofs.SoundLaws.{kept-is}
 
 pub keep-holds : {A : Type 0} (t : A → Bool) (l : List A) → All (λ x. t x ≡ true) (keep t l)
@@ -50,7 +50,7 @@ sized-all bs a = all-map bs (λ b s. sound-sized b s) a
 sound-records : (kind : Kind) (b : List ℕ) → SoundAlone b → GoodRecords kind (recordsAs kind b)
 sound-records kind b s = rw (own-records kind b) at (pass-good (ownTables b) (s .fields) kind)
 
-fields-pass : (bs : List (List ℕ)) → All SoundAlone bs → Pass (recordChecks (tablesOf bs))
+fields-pass : (bs : List (List ℕ)) → All SoundAlone bs → Pass (fieldsOf (tablesOf bs))
 fields-pass bs a =
     good-pass (tablesOf bs) (λ kind. rw (table-of kind bs) (good-joined kind bs (sized-all bs a) (all-map bs (λ b s. sound-records kind b s) a)))
 

@@ -1,9 +1,12 @@
-pub mod SoundLaws
-pub mod PieceLaws
-pub mod SortLaws
-pub mod KeptTables
-pub mod CallLaws
-pub mod Undamaged
-pub mod ListedLaws
-pub mod Demands
-pub mod Unique
+-- what is promised of the definitions
+mod Undamaged
+mod ListedLaws
+mod Demands
+mod Unique
+-- what a kept block is, and the tables of kept blocks
+mod SoundLaws
+mod KeptTables
+-- the loops over pieces, and what the call answers
+mod PieceLaws
+mod SortLaws
+mod CallLaws

@@ -8,19 +8,19 @@ use lib.Dec.{eqb}
 use lib.ListN.{length, take, getD, length-append, length-take, length-drop}
 use borrow.Author.Tests.{eq-eqb, ne-eqb}
 use Rattle.records.specs.Chunks.{chunkAt}
-use Rattle.records.specs.Lists.{All, same, only, sumOf, keep}
+use Rattle.records.specs.Lists.{All, Ascending, same, only, sumOf, keep}
 use Rattle.records.specs.Listed.{Entry, entry, indicesOf}
 use Rattle.records.proofs.ChunkLaws.{length-chunks, getD-chunks}
 use Rattle.records.proofs.ListLaws.{all-append, all-map, map-all}
 use Rattle.records.proofs.Measures.{sum-append}
 use Rattle.blocks.specs.Block.{originOf, headFits, shaped}
 use Rattle.blocks.proofs.Laws.{alone-torn, alone-3}
-use Rattle.blocks.specs.Forms.{markOf}
+use Rattle.blocks.specs.Forms.{formMark}
 use Rattle.blocks.specs.declared.forms.Form.{Form}
 use Rattle.blocks.specs.declared.forms.Origin.{Origin}
 use Rattle.salvage.specs.Pieces.{pieceCount, piecesOf}
 use Rattle.salvage.specs.Kept.{originFor, dropNumber, isKept, keptOf, droppedOf, keptIn, droppedIn}
-use Rattle.salvage.specs.Demands.{times, KeptOrListed, Says, ListedRight, Ascending, ListedInOrder, NoneLost, TornIsOne, UnmarkedIsThree}
+use Rattle.salvage.specs.Demands.{times, KeptOrListed, Says, ListedRight, ListedInOrder, NoneLost, TornIsOne, UnmarkedIsThree}
 
 not-zero : (n : ℕ) → eqb n 0 ≡ false → 1 ≤ n
 not-zero zero e = absurd (false≢true (sym e))
@@ -136,7 +136,7 @@ module _ (lead : Origin) where
 
 -- ---- a block with neither mark
 
-unshaped : (b : List ℕ) (form : Form) → same (take 4 b) (markOf form) ≡ false → shaped form b ≡ false
+unshaped : (b : List ℕ) (form : Form) → same (take 4 b) (formMark form) ≡ false → shaped form b ≡ false
 unfolding shaped headFits
 unshaped b form e = rw e
 

@@ -6,12 +6,13 @@ use Prim.Native.Nat.{ℕ, _+_, _-_, _*_, _≤_, _<_, min}
 use native.Mathlib.Omega.{arith}
 use lib.ListN.{length, take, drop, length-drop}
 use borrow.Author.Tests.{eq-eqb, ne-eqb}
-use Rattle.records.specs.Chunks.{chunkAt, chunksFrom}
+use Rattle.records.specs.Steps.Rest.{chunksFrom}
+use Rattle.records.specs.Chunks.{chunkAt}
 use Rattle.records.specs.Lists.{keep}
 use Rattle.records.proofs.ListLaws.{take-min, keep-none, keep-out}
 use Rattle.records.proofs.ChunkLaws.{chunks-all, chunks-step, chunks-none}
 use Rattle.records.specs.declared.refusals.Refusal.{Refusal}
-use Rattle.blocks.specs.Alone.{aloneOf}
+use Rattle.blocks.specs.Alone.{aloneCall}
 use Rattle.blocks.specs.declared.forms.Origin.{Origin}
 use Rattle.blocks.specs.declared.answers.Alone.{Alone}
 use Rattle.blocks.specs.declared.answers.Alone.the-variants.{Sound, Refused}
@@ -43,11 +44,11 @@ pieces-none bytes i h = chunks-none 512 (pieceCount (length bytes)) i bytes h
 -- ---- the first that is sound
 
 module _ (b : List ℕ) (l ls : List (List ℕ)) (e : l ≡ b ∷ ls) where
-  pub lead-found : (o : Origin) → aloneOf b ≡ Sound o → leadOf l ≡ Of o
+  pub lead-found : (o : Origin) → aloneCall b ≡ Sound o → leadOf l ≡ Of o
   unfolding leadOf
   lead-found o h = rw (e, h)
 
-  pub lead-next : (r : Refusal) → aloneOf b ≡ Refused r → leadOf l ≡ leadOf ls
+  pub lead-next : (r : Refusal) → aloneCall b ≡ Refused r → leadOf l ≡ leadOf ls
   unfolding leadOf
   lead-next r h = rw (e, h)
 
@@ -62,12 +63,12 @@ of-missing : (o : Origin) → Of o ≡ Missing → ⊥
 of-missing o e = let z : _≡_ {A = ℕ} 0 1 = cc in absurd (omega arith)
 
 -- it is kept
-lead-number : (b : List ℕ) (o : Origin) → aloneOf b ≡ Sound o → dropNumber o b ≡ 0
+lead-number : (b : List ℕ) (o : Origin) → aloneCall b ≡ Sound o → dropNumber o b ≡ 0
 unfolding dropNumber
 lead-number b o e = rw (e, same-origin o)
 
 -- and where there is none, nothing is
-refused-out : (lead : Origin) (b : List ℕ) (r : Refusal) → aloneOf b ≡ Refused r → isKept lead b ≡ false
+refused-out : (lead : Origin) (b : List ℕ) (r : Refusal) → aloneCall b ≡ Refused r → isKept lead b ≡ false
 unfolding dropNumber
 refused-out lead b r e =
     let n = refused-numbered b r e in
@@ -89,9 +90,9 @@ kept-first t b bs e = rw e (omega arith)
 pub lead-kept : (bs : List (List ℕ)) (o : Origin) → leadOf bs ≡ Of o → 1 ≤ length (keptOf o bs)
 unfolding leadOf keptOf
 lead-kept [] o e = absurd (of-missing o (sym e))
-lead-kept (b ∷ bs) o e = go (aloneOf b) refl e (lead-kept bs o)
+lead-kept (b ∷ bs) o e = go (aloneCall b) refl e (lead-kept bs o)
   where
-    go : (a : Alone) → aloneOf b ≡ a → leadBy a (leadOf bs) ≡ Of o → (leadOf bs ≡ Of o → 1 ≤ length (keep (isKept o) bs))
+    go : (a : Alone) → aloneCall b ≡ a → leadBy a (leadOf bs) ≡ Of o → (leadOf bs ≡ Of o → 1 ≤ length (keep (isKept o) bs))
         → 1 ≤ length (keep (isKept o) (b ∷ bs))
     go (Sound p) q z f =
         kept-first (isKept o) b bs (eq-eqb (dropNumber o b) 0 (lead-number b o (q ∙ ap Sound (of-one p o z))))
@@ -100,9 +101,9 @@ lead-kept (b ∷ bs) o e = go (aloneOf b) refl e (lead-kept bs o)
 pub missing-kept : (bs : List (List ℕ)) (o : Origin) → leadOf bs ≡ Missing → keptOf o bs ≡ []
 unfolding leadOf keptOf
 missing-kept [] o e = keep-none (isKept o) [] refl
-missing-kept (b ∷ bs) o e = go (aloneOf b) refl e (missing-kept bs o)
+missing-kept (b ∷ bs) o e = go (aloneCall b) refl e (missing-kept bs o)
   where
-    go : (a : Alone) → aloneOf b ≡ a → leadBy a (leadOf bs) ≡ Missing → (leadOf bs ≡ Missing → keep (isKept o) bs ≡ [])
+    go : (a : Alone) → aloneCall b ≡ a → leadBy a (leadOf bs) ≡ Missing → (leadOf bs ≡ Missing → keep (isKept o) bs ≡ [])
         → keep (isKept o) (b ∷ bs) ≡ []
     go (Sound p) q z f = absurd (of-missing p z)
     go (Refused r) q z f = keep-out (isKept o) b (b ∷ bs) bs refl (refused-out o b r q) ∙ f z

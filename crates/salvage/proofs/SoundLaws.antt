@@ -12,7 +12,7 @@ use Rattle.records.specs.declared.refusals.Fault.{Fault}
 use Rattle.records.specs.declared.refusals.Fault.the-variants.{Nothing, Is}
 use Rattle.blocks.specs.Forms.{formNumber, sameForm, origin}
 use Rattle.blocks.specs.Block.{originOf}
-use Rattle.blocks.specs.Alone.{aloneChecks, alone, aloneOf}
+use Rattle.blocks.specs.Alone.{aloneChecks, aloneAnswer, aloneCall}
 use Rattle.blocks.specs.declared.forms.Form.{Form}
 use Rattle.blocks.specs.declared.forms.Form.the-variants.{Old, New}
 use Rattle.blocks.specs.declared.forms.Origin.{Origin}
@@ -43,16 +43,16 @@ cond-zero : (t : Bool) → _≡_ {A = ℕ} (cond t 0 20) 0 → t ≡ true
 cond-zero true e = refl
 cond-zero false e = absurd (omega arith)
 
-refused-as : (b : List ℕ) (r : Refusal) → firstOf (aloneChecks b) ≡ Is r → aloneOf b ≡ Refused r
-unfolding aloneOf
+refused-as : (b : List ℕ) (r : Refusal) → firstOf (aloneChecks b) ≡ Is r → aloneCall b ≡ Refused r
+unfolding aloneCall
 refused-as b r e = rw e
 
 -- a block that is kept is sound by itself, and of the form and account of the first
 pub kept-is : (lead : Origin) (b : List ℕ) → dropNumber lead b ≡ 0 → SoundAlone b × (originOf b ≡ lead)
-unfolding dropNumber aloneOf
+unfolding dropNumber aloneCall
 kept-is lead b e = go (firstOf (aloneChecks b)) refl e
   where
-    go : (f : Fault) → firstOf (aloneChecks b) ≡ f → numberBy (alone f (originOf b)) lead ≡ 0 → SoundAlone b × (originOf b ≡ lead)
+    go : (f : Fault) → firstOf (aloneChecks b) ≡ f → numberBy (aloneAnswer f (originOf b)) lead ≡ 0 → SoundAlone b × (originOf b ≡ lead)
     go Nothing q z = (sound-is b q, origin-same (originOf b) lead (cond-zero (sameOrigin (originOf b) lead) z))
     go (Is r) q z = absurd (omega (arith, z, refused-numbered b r (refused-as b r q)))
 

@@ -17,7 +17,7 @@ use Rattle.blocks.specs.declared.answers.Alone.the-variants.{Sound}
 use Rattle.blocks.proofs.Laws.{whole-file, GoodBlocks, whole-table, read-good, SoundOf, is-sound, file-sound}
 use Rattle.salvage.specs.Pieces.{pieceCount, piecesOf}
 use Rattle.salvage.specs.Kept.{leadOf, originFor, dropNumber, isKept, keptOf, droppedOf, keptIn, droppedIn, soundFile}
-use Rattle.salvage.specs.Steps.{AllKept}
+use Rattle.salvage.specs.Steps.AllKept.{AllKept}
 use Rattle.salvage.specs.declared.pieces.Lead.the-variants.{Of}
 use Rattle.salvage.proofs.SoundLaws.{is-kept}
 use Rattle.salvage.proofs.PieceLaws.{lead-found}

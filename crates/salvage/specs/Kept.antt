@@ -7,7 +7,7 @@ use Rattle.records.specs.Lists.{keep}
 use Rattle.records.specs.Listed.{Entry, entry}
 use Rattle.blocks.specs.Forms.{sameForm, inOld}
 use Rattle.blocks.specs.File.{tablesOf, fileOf}
-use Rattle.blocks.specs.Alone.{aloneOf}
+use Rattle.blocks.specs.Alone.{aloneCall}
 use Rattle.blocks.specs.declared.forms.Origin.{Origin}
 use Rattle.blocks.specs.declared.answers.Alone.{Alone}
 use Rattle.blocks.specs.declared.answers.Alone.the-variants.{Sound, Refused}
@@ -24,7 +24,7 @@ leadBy (Refused r) later = later
 
 unfoldable pub leadOf : List (List ℕ) → Lead
 leadOf [] = Missing
-leadOf (b ∷ bs) = leadBy (aloneOf b) (leadOf bs)
+leadOf (b ∷ bs) = leadBy (aloneCall b) (leadOf bs)
 
 -- where no piece is sound none is kept, whatever stands here
 abbrev pub leading : Lead → Origin
@@ -46,7 +46,7 @@ numberBy (Sound o) lead = cond (sameOrigin o lead) 0 20
 numberBy (Refused r) lead = r .number
 
 unfoldable pub dropNumber : Origin → List ℕ → ℕ
-dropNumber lead b = numberBy (aloneOf b) lead
+dropNumber lead b = numberBy (aloneCall b) lead
 
 abbrev pub isKept : Origin → List ℕ → Bool
 isKept lead b = eqb (dropNumber lead b) 0

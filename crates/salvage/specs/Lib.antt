@@ -1,5 +1,9 @@
+-- pieces, which of them are kept, and the file of those
 pub mod Pieces
 pub mod Kept
+-- what the call answers
 pub mod Calls
-pub mod Steps
+-- what is demanded
 pub mod Demands
+-- for functions that are not public
+pub mod Steps

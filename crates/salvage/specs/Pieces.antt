@@ -1,15 +1,12 @@
 -- 'A tool takes 1 to 19,968 bytes': pieces of 512 bytes in file order, of which the last may be torn.
-use Prim.Native.Nat.{ℕ, _+_, _/_}
+use Prim.Native.Nat.{ℕ, _+_, _-_, _/_}
 use mathlib.Core.List.{List}
 use lib.ListN.{length}
 use Rattle.records.specs.Chunks.{chunks}
-
--- '1 to 19,968 bytes'
-abbrev pub mostBytes : ℕ
-mostBytes = 19968
+use Rattle.blocks.specs.Sizes.{blockBytes}
 
 abbrev pub pieceCount : ℕ → ℕ
-pieceCount bytes = (bytes + 511) / 512
+pieceCount bytes = (bytes + (blockBytes - 1)) / blockBytes
 
 abbrev pub piecesOf : List ℕ → List (List ℕ)
-piecesOf bytes = chunks 512 (pieceCount (length bytes)) bytes
+piecesOf bytes = chunks blockBytes (pieceCount (length bytes)) bytes

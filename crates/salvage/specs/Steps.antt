@@ -1,11 +1,4 @@
--- What the steps of the salvage compute, for the contracts of functions that are not public.
-use mathlib.Core.Path.{_≡_}
-use mathlib.Core.List.{List}
-use Prim.Native.Nat.{ℕ}
-use Rattle.records.specs.Lists.{All}
-use Rattle.blocks.specs.declared.forms.Origin.{Origin}
-use Rattle.salvage.specs.Kept.{dropNumber}
-
--- blocks that are all kept
-abbrev pub AllKept : Origin → List (List ℕ) → Type 0
-AllKept lead bs = All (λ b. dropNumber lead b ≡ 0) bs
+-- What the steps of this crate's functions compute, for the contracts of functions that are not public: nothing here has to be
+-- believed by one who reads the promises.
+pub mod AllKept
+pub mod Saving

@@ -4,16 +4,18 @@ ghost use Prim.Native.Nat.{_≤_};
 ghost use lib.ListN.{length};
 ghost use Rattle.records.specs.Listed.{indicesOf, numbersOf};
 ghost use Rattle.records.specs.Order.{refuse, firstOf};
+ghost use Rattle.records.specs.Written.{leftAfter};
+ghost use Rattle.blocks.specs.Sizes.{mostFileBytes};
 ghost use Rattle.records.specs.declared.refusals.Fault.the-variants.{Nothing};
 ghost use Rattle.blocks.specs.File.{tables, tablesIn, blocksOf, fileOf};
 ghost use Rattle.blocks.specs.Writer.{writeChecks};
-ghost use Rattle.salvage.specs.Pieces.{mostBytes, piecesOf};
+ghost use Rattle.salvage.specs.Pieces.{piecesOf};
 ghost use Rattle.salvage.specs.Kept.{leadOf, droppedIn, soundFile};
-ghost use Rattle.salvage.specs.Calls.{roomChecks, endChecks, answered, salvageOf, left};
-ghost use Rattle.salvage.specs.Steps.{AllKept};
+ghost use Rattle.salvage.specs.Calls.{salvageRoom, salvageCall, hasSaved};
+ghost use Rattle.salvage.specs.Steps.AllKept.{AllKept};
+ghost use Rattle.salvage.specs.Steps.Saving.{savedAnswer, keptAnswer};
 ghost use Rattle.salvage.specs.declared.pieces.Lead.the-variants.{Of};
 use crate::bytes::copy_indices;
-use crate::bytes::copy_to;
 use crate::pieces::Lead;
 use crate::pieces::find_lead;
 use crate::sorter::sort_pieces;
@@ -48,7 +50,7 @@ fn refused(number: u8) -> Salvaged
 
 // Refusal 17: the file, then the list.
 fn room_fault(bytes: usize, entries: usize, out: usize, indices: usize, numbers: usize) -> Fault
-    ensures { λ r. ⌜ r ≡ firstOf (roomChecks bytes entries out indices numbers) ⌝ }
+    ensures { λ r. ⌜ r ≡ firstOf (salvageRoom bytes entries out indices numbers) ⌝ }
 {
     if out < bytes {
         return Fault::Is(Refusal {
@@ -81,10 +83,12 @@ fn put_saved(
 ) -> Salvaged
     requires { ⌜ firstOf (writeChecks lead (tables (now holdings) (now placement) (now claims))) ≡ Nothing ⌝ }
     requires { ⌜ length (now reasons) ≡ length (now dropped) ⌝ }
-    ensures { λ r. ⌜ r ≡ answered (firstOf (roomChecks (length (fileOf lead (tables (now (holdings .entry)) (now (placement .entry)) (now (claims .entry))))) (length (now (dropped .entry))) (length (now (out .entry))) (length (now (indices .entry))) (length (now (numbers .entry))))) (length (fileOf lead (tables (now (holdings .entry)) (now (placement .entry)) (now (claims .entry))))) (length (now (dropped .entry))) ⌝ }
-    ensures { λ r. ⌜ now (out .exit) ≡ left r (fileOf lead (tables (now (holdings .entry)) (now (placement .entry)) (now (claims .entry)))) (now (out .entry)) ⌝ }
-    ensures { λ r. ⌜ now (indices .exit) ≡ left r (now (dropped .entry)) (now (indices .entry)) ⌝ }
-    ensures { λ r. ⌜ now (numbers .exit) ≡ left r (now (reasons .entry)) (now (numbers .entry)) ⌝ }
+    ensures { λ r. ⌜ r ≡ savedAnswer (fileOf lead (tables (now (holdings .entry)) (now (placement .entry)) (now (claims .entry))))
+        (now (dropped .entry)) (now (out .entry)) (now (indices .entry)) (now (numbers .entry)) ⌝ }
+    ensures { λ r. ⌜ now (out .exit) ≡ leftAfter (hasSaved r)
+        (fileOf lead (tables (now (holdings .entry)) (now (placement .entry)) (now (claims .entry)))) (now (out .entry)) ⌝ }
+    ensures { λ r. ⌜ now (indices .exit) ≡ leftAfter (hasSaved r) (now (dropped .entry)) (now (indices .entry)) ⌝ }
+    ensures { λ r. ⌜ now (numbers .exit) ≡ leftAfter (hasSaved r) (now (reasons .entry)) (now (numbers .entry)) ⌝ }
 {
     let need = blocks::file_bytes(holdings.len(), placement.len(), claims.len());
     match room_fault(need, dropped.len(), out.len(), indices.len(), numbers.len()) {
@@ -92,7 +96,7 @@ fn put_saved(
         Fault::Nothing => {
             blocks::write_file(holdings, placement, claims, lead, out);
             copy_indices(indices, dropped);
-            copy_to(numbers, 0, reasons);
+            records::copy_to(numbers, 0, reasons);
             Salvaged::Saved(need, dropped.len())
         }
     }
@@ -111,10 +115,11 @@ fn save_kept(
 ) -> Salvaged
     requires { ⌜ AllKept lead (blocksOf (now kept)) × (1 ≤ length (blocksOf (now kept))) ⌝ }
     requires { ⌜ length (now reasons) ≡ length (now dropped) ⌝ }
-    ensures { λ r. ⌜ r ≡ answered (firstOf (endChecks (blocksOf (now (kept .entry))) (length (fileOf lead (tablesIn (now (kept .entry))))) (length (now (dropped .entry))) (length (now (out .entry))) (length (now (indices .entry))) (length (now (numbers .entry))))) (length (fileOf lead (tablesIn (now (kept .entry))))) (length (now (dropped .entry))) ⌝ }
-    ensures { λ r. ⌜ now (out .exit) ≡ left r (fileOf lead (tablesIn (now (kept .entry)))) (now (out .entry)) ⌝ }
-    ensures { λ r. ⌜ now (indices .exit) ≡ left r (now (dropped .entry)) (now (indices .entry)) ⌝ }
-    ensures { λ r. ⌜ now (numbers .exit) ≡ left r (now (reasons .entry)) (now (numbers .entry)) ⌝ }
+    ensures { λ r. ⌜ r ≡ keptAnswer lead (now (kept .entry))
+        (now (dropped .entry)) (now (out .entry)) (now (indices .entry)) (now (numbers .entry)) ⌝ }
+    ensures { λ r. ⌜ now (out .exit) ≡ leftAfter (hasSaved r) (fileOf lead (tablesIn (now (kept .entry)))) (now (out .entry)) ⌝ }
+    ensures { λ r. ⌜ now (indices .exit) ≡ leftAfter (hasSaved r) (now (dropped .entry)) (now (indices .entry)) ⌝ }
+    ensures { λ r. ⌜ now (numbers .exit) ≡ leftAfter (hasSaved r) (now (reasons .entry)) (now (numbers .entry)) ⌝ }
 {
     let mut holdings = [0u8; RECORD_BYTES * MOST_LEGS];
     let mut placement = [0u8; RECORD_BYTES * MOST_LEGS];
@@ -147,11 +152,11 @@ fn save_pieces(
     indices: &mut [u32],
     numbers: &mut [u8],
 ) -> Salvaged
-    requires { ⌜ (1 ≤ length (now bytes)) × (length (now bytes) ≤ mostBytes) × (leadOf (piecesOf (now bytes)) ≡ Of lead) ⌝ }
-    ensures { λ r. ⌜ r ≡ salvageOf (now (bytes .entry)) (length (now (out .entry))) (length (now (indices .entry))) (length (now (numbers .entry))) ⌝ }
-    ensures { λ r. ⌜ now (out .exit) ≡ left r (soundFile (now (bytes .entry))) (now (out .entry)) ⌝ }
-    ensures { λ r. ⌜ now (indices .exit) ≡ left r (indicesOf (droppedIn (now (bytes .entry)))) (now (indices .entry)) ⌝ }
-    ensures { λ r. ⌜ now (numbers .exit) ≡ left r (numbersOf (droppedIn (now (bytes .entry)))) (now (numbers .entry)) ⌝ }
+    requires { ⌜ (1 ≤ length (now bytes)) × (length (now bytes) ≤ mostFileBytes) × (leadOf (piecesOf (now bytes)) ≡ Of lead) ⌝ }
+    ensures { λ r. ⌜ r ≡ salvageCall (now (bytes .entry)) (length (now (out .entry))) (length (now (indices .entry))) (length (now (numbers .entry))) ⌝ }
+    ensures { λ r. ⌜ now (out .exit) ≡ leftAfter (hasSaved r) (soundFile (now (bytes .entry))) (now (out .entry)) ⌝ }
+    ensures { λ r. ⌜ now (indices .exit) ≡ leftAfter (hasSaved r) (indicesOf (droppedIn (now (bytes .entry)))) (now (indices .entry)) ⌝ }
+    ensures { λ r. ⌜ now (numbers .exit) ≡ leftAfter (hasSaved r) (numbersOf (droppedIn (now (bytes .entry)))) (now (numbers .entry)) ⌝ }
 {
     let mut kept = [0u8; MOST_FILE_BYTES];
     let mut dropped = [0u32; MOST_PIECES];
@@ -174,10 +179,10 @@ fn save_pieces(
 // one. The sound file of their records goes to `out`, the index and the number of each piece that was
 // dropped to the two lists, all from index 0; what lies past them stays. On a refusal nothing is written.
 pub fn salvage(bytes: &[u8], out: &mut [u8], indices: &mut [u32], numbers: &mut [u8]) -> Salvaged
-    ensures { λ r. ⌜ r ≡ salvageOf (now (bytes .entry)) (length (now (out .entry))) (length (now (indices .entry))) (length (now (numbers .entry))) ⌝ }
-    ensures { λ r. ⌜ now (out .exit) ≡ left r (soundFile (now (bytes .entry))) (now (out .entry)) ⌝ }
-    ensures { λ r. ⌜ now (indices .exit) ≡ left r (indicesOf (droppedIn (now (bytes .entry)))) (now (indices .entry)) ⌝ }
-    ensures { λ r. ⌜ now (numbers .exit) ≡ left r (numbersOf (droppedIn (now (bytes .entry)))) (now (numbers .entry)) ⌝ }
+    ensures { λ r. ⌜ r ≡ salvageCall (now (bytes .entry)) (length (now (out .entry))) (length (now (indices .entry))) (length (now (numbers .entry))) ⌝ }
+    ensures { λ r. ⌜ now (out .exit) ≡ leftAfter (hasSaved r) (soundFile (now (bytes .entry))) (now (out .entry)) ⌝ }
+    ensures { λ r. ⌜ now (indices .exit) ≡ leftAfter (hasSaved r) (indicesOf (droppedIn (now (bytes .entry)))) (now (indices .entry)) ⌝ }
+    ensures { λ r. ⌜ now (numbers .exit) ≡ leftAfter (hasSaved r) (numbersOf (droppedIn (now (bytes .entry)))) (now (numbers .entry)) ⌝ }
 {
     if (1 <= bytes.len()) & (bytes.len() <= MOST_FILE_BYTES) {
         match find_lead(bytes) {

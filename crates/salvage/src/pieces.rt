@@ -3,8 +3,9 @@ ghost use mathlib.Core.Path.{_≡_};
 ghost use Prim.Native.Nat.{_+_, _≤_, _<_, min};
 ghost use lib.ListN.{length};
 ghost use Rattle.records.specs.Chunks.{chunkAt};
-ghost use Rattle.blocks.specs.Alone.{aloneOf};
-ghost use Rattle.salvage.specs.Pieces.{mostBytes, pieceCount, piecesOf};
+ghost use Rattle.blocks.specs.Sizes.{mostFileBytes};
+ghost use Rattle.blocks.specs.Alone.{aloneCall};
+ghost use Rattle.salvage.specs.Pieces.{pieceCount, piecesOf};
 ghost use Rattle.salvage.specs.Kept.{leadOf, sameOrigin, dropNumber};
 use blocks::Alone;
 use blocks::BLOCK_BYTES;
@@ -18,7 +19,7 @@ pub enum Lead {
 
 // How many pieces so many bytes have: the last may be torn.
 pub(crate) fn piece_count(bytes: usize) -> usize
-    requires { ⌜ bytes ≤ mostBytes ⌝ }
+    requires { ⌜ bytes ≤ mostFileBytes ⌝ }
     ensures { λ r. ⌜ r ≡ pieceCount bytes ⌝ }
 {
     (bytes + (BLOCK_BYTES - 1)) / BLOCK_BYTES
@@ -26,7 +27,7 @@ pub(crate) fn piece_count(bytes: usize) -> usize
 
 // Where the piece ends that begins at `at`, of so many bytes.
 fn piece_end(at: usize, bytes: usize) -> usize
-    requires { ⌜ (at ≤ bytes) × (bytes ≤ mostBytes) ⌝ }
+    requires { ⌜ (at ≤ bytes) × (bytes ≤ mostFileBytes) ⌝ }
     ensures { λ r. ⌜ r ≡ min (at + 512) bytes ⌝ }
 {
     if at + BLOCK_BYTES < bytes {
@@ -37,8 +38,8 @@ fn piece_end(at: usize, bytes: usize) -> usize
 }
 
 fn judge_piece(bytes: &[u8], i: usize) -> Alone
-    requires { ⌜ (length (now bytes) ≤ mostBytes) × (i < pieceCount (length (now bytes))) ⌝ }
-    ensures { λ r. ⌜ r ≡ aloneOf (chunkAt 512 (now (bytes .entry)) i) ⌝ }
+    requires { ⌜ (length (now bytes) ≤ mostFileBytes) × (i < pieceCount (length (now bytes))) ⌝ }
+    ensures { λ r. ⌜ r ≡ aloneCall (chunkAt 512 (now (bytes .entry)) i) ⌝ }
 {
     let at = BLOCK_BYTES * i;
     let end = piece_end(at, bytes.len());
@@ -47,7 +48,7 @@ fn judge_piece(bytes: &[u8], i: usize) -> Alone
 
 // The first sound piece sets form and account.
 pub(crate) fn find_lead(bytes: &[u8]) -> Lead
-    requires { ⌜ length (now bytes) ≤ mostBytes ⌝ }
+    requires { ⌜ length (now bytes) ≤ mostFileBytes ⌝ }
     ensures { λ r. ⌜ r ≡ leadOf (piecesOf (now (bytes .entry))) ⌝ }
 {
     let n = piece_count(bytes.len());
@@ -73,7 +74,7 @@ fn same_origin(a: Origin, b: Origin) -> bool
 // The number that piece i is dropped with where the first kept block has this form and account; 0 where it
 // is kept.
 pub(crate) fn drop_number(bytes: &[u8], i: usize, lead: Origin) -> u8
-    requires { ⌜ (length (now bytes) ≤ mostBytes) × (i < pieceCount (length (now bytes))) ⌝ }
+    requires { ⌜ (length (now bytes) ≤ mostFileBytes) × (i < pieceCount (length (now bytes))) ⌝ }
     ensures { λ r. ⌜ r ≡ dropNumber lead (chunkAt 512 (now (bytes .entry)) i) ⌝ }
 {
     match judge_piece(bytes, i) {

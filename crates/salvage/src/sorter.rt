@@ -5,9 +5,9 @@ ghost use Prim.Native.Nat.{_≤_};
 ghost use lib.ListN.{length};
 ghost use Rattle.records.specs.Listed.{indicesOf, numbersOf};
 ghost use Rattle.records.specs.Written.{putAt};
-ghost use Rattle.salvage.specs.Pieces.{mostBytes, piecesOf};
+ghost use Rattle.blocks.specs.Sizes.{mostBlocks, mostFileBytes};
+ghost use Rattle.salvage.specs.Pieces.{piecesOf};
 ghost use Rattle.salvage.specs.Kept.{keptOf, droppedOf};
-use crate::bytes::copy_to;
 use crate::pieces::drop_number;
 use crate::pieces::piece_count;
 use blocks::BLOCK_BYTES;
@@ -28,7 +28,8 @@ pub(crate) fn sort_pieces(
     indices: &mut [u32],
     numbers: &mut [u8],
 ) -> Sorted
-    requires { ⌜ (length (now bytes) ≤ mostBytes) × (mostBytes ≤ length (now kept)) × (39 ≤ length (now indices)) × (39 ≤ length (now numbers)) ⌝ }
+    requires { ⌜ (length (now bytes) ≤ mostFileBytes) × (mostFileBytes ≤ length (now kept)) ×
+        (mostBlocks ≤ length (now indices)) × (mostBlocks ≤ length (now numbers)) ⌝ }
     ensures { λ r. ⌜ r .kept ≡ length (keptOf lead (piecesOf (now (bytes .entry)))) ⌝ }
     ensures { λ r. ⌜ r .dropped ≡ length (droppedOf lead 0 (piecesOf (now (bytes .entry)))) ⌝ }
     ensures { λ _. ⌜ now (kept .exit) ≡ putAt (now (kept .entry)) 0 (flatten (keptOf lead (piecesOf (now (bytes .entry))))) ⌝ }
@@ -44,7 +45,7 @@ pub(crate) fn sort_pieces(
         if number == 0 {
             let at = BLOCK_BYTES * i;
             let end = at + BLOCK_BYTES;
-            copy_to(kept, BLOCK_BYTES * held, &bytes[at..end]);
+            records::copy_to(kept, BLOCK_BYTES * held, &bytes[at..end]);
             held += 1;
         } else {
             indices[listed] = i as u32;

@@ -13,20 +13,17 @@ use borrow.Author.Count.{below-more}
 use Rattle.records.specs.Lines.{sameLineSide}
 use Rattle.records.specs.declared.legs.Leg.{Leg}
 use Rattle.records.proofs.LineLaws.{same?, line-sym, line-swap}
-use Rattle.sheets.specs.Numbered.{alike, Numbered}
-use Rattle.sheets.specs.Links.{bucketOf, digitsOf, restOf, linkBelow, Unlinked, Rising, Ends}
-use Rattle.sheets.specs.Links as links-of
+use Rattle.sheets.specs.Steps.Pooled.{alike, LineNumbered}
+use Rattle.sheets.specs.Steps.Links.{bucketOf, digitsOf, restOf, linkBelow, Unlinked, Rising, Ends}
+use Rattle.sheets.specs.Steps.Links as links-of
 use Rattle.sheets.specs.declared.links.Digits.{Digits}
+use Rattle.sheets.proofs.WordLaws.{same-digits}
 use Rattle.sheets.proofs.NumberLaws.{numbered-none, numbered-new, numbered-old}
 
--- legs of one line and side have the same bucket and the same digits
+-- legs of one line and side have the same bucket
 same-bucket : (x y : Leg) → sameLineSide x y ≡ true → bucketOf x ≡ bucketOf y
 unfolding bucketOf
 same-bucket x y e = let l = same? x y .0 e in cc
-
-same-digits : (x y : Leg) → sameLineSide x y ≡ true → digitsOf x ≡ digitsOf y
-unfolding digitsOf
-same-digits x y e = let l = same? x y .0 e in cc
 
 bucket-small : (k : ℕ) (x : Leg) → bucketOf x < 509 + 8 * k
 unfolding bucketOf
@@ -125,7 +122,7 @@ module _ (leg : ℕ → Leg) (links : List ℕ) (k at : ℕ) (none : getD links 
 -- ---- all that is known of the first k records: none of them is missed
 
 pub record Linked (leg : ℕ → Leg) (k : ℕ) (numbers links : List ℕ) : Type 0 where
-  pub numbered : Numbered leg k numbers
+  pub numbered : LineNumbered leg k numbers
   pub rising : Rising k links
   pub found : (x : Leg) (j : ℕ) → j < k → alike leg x j ≡ true → Missed leg links x (digitsOf x) (bucketOf x) → ⊥
 

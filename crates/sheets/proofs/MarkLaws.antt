@@ -12,7 +12,7 @@ use Rattle.records.specs.Chunks.{chunkAt}
 use Rattle.records.specs.Legs.{legOf}
 use Rattle.records.specs.Lists.{only, sumOf}
 use Rattle.records.specs.Order.{firstOf}
-use Rattle.records.specs.Tables.{tableChecks, counted, countedOf}
+use Rattle.records.specs.Tables.{tableChecks, checkAnswer, checkCall}
 use Rattle.records.specs.Written.{putAt}
 use Rattle.records.specs.declared.refusals.Fault.{Fault}
 use Rattle.records.specs.declared.refusals.Fault.the-variants.{Nothing, Is}
@@ -117,19 +117,19 @@ module _ {p cur : List ℕ} {marks i : ℕ} (m : Marking p cur marks i) where
 
 -- ---- the answer of the table's check
 
-pub counted-clear : (p : List ℕ) (n : ℕ) → countedOf Placement p ≡ Records n → firstOf (tableChecks Placement p) ≡ Nothing
-unfolding countedOf
+pub counted-clear : (p : List ℕ) (n : ℕ) → checkCall Placement p ≡ Records n → firstOf (tableChecks Placement p) ≡ Nothing
+unfolding checkCall
 counted-clear p n e = go (firstOf (tableChecks Placement p)) refl e
   where
-    go : (f : Fault) → firstOf (tableChecks Placement p) ≡ f → counted f (length p / 32) ≡ Records n → firstOf (tableChecks Placement p) ≡ Nothing
+    go : (f : Fault) → firstOf (tableChecks Placement p) ≡ f → checkAnswer f (length p / 32) ≡ Records n → firstOf (tableChecks Placement p) ≡ Nothing
     go Nothing q r = q
     go (Is x) q r = let z : _≡_ {A = ℕ} 0 1 = cc in absurd (omega arith)
 
-pub counted-refused : (p : List ℕ) (r : Refusal) → countedOf Placement p ≡ Refused r → firstOf (tableChecks Placement p) ≡ Is r
-unfolding countedOf
+pub counted-refused : (p : List ℕ) (r : Refusal) → checkCall Placement p ≡ Refused r → firstOf (tableChecks Placement p) ≡ Is r
+unfolding checkCall
 counted-refused p r e = go (firstOf (tableChecks Placement p)) refl e
   where
-    go : (f : Fault) → firstOf (tableChecks Placement p) ≡ f → counted f (length p / 32) ≡ Refused r → firstOf (tableChecks Placement p) ≡ Is r
+    go : (f : Fault) → firstOf (tableChecks Placement p) ≡ f → checkAnswer f (length p / 32) ≡ Refused r → firstOf (tableChecks Placement p) ≡ Is r
     go Nothing q w = let z : _≡_ {A = ℕ} 0 1 = cc in absurd (omega arith)
     go (Is x) q w = let t : x ≡ r = cc in q ∙ ap Is t
 

@@ -10,6 +10,8 @@ use lib.ListN.{length, set, take, drop, length-append, length-set, length-take, 
 use lib.Seq.{take-at, drop-at, drop-set-lt, getD-set-same, getD-set-other}
 use borrow.Author.Tests.{le-leb, eqb-true, eq-eqb, ne-eqb}
 use Rattle.records.proofs.LegLaws.{paid-range}
+use Rattle.records.specs.Written.{putAt}
+use Rattle.records.proofs.PutLaws.{put-whole}
 use Rattle.records.specs.Bytes.{leAt, zeroIn}
 use Rattle.records.specs.Chunks.{chunks, recordsOf}
 use Rattle.records.specs.Legs.{legFields, legOf, isLong, isShort, isPaid, withPaid, inRange, goodLeg}
@@ -82,6 +84,10 @@ length-marked zero xs = refl
 length-marked (suc n) xs =
     length-append (markedRecord (take 32 xs)) (markedFirst n (drop 32 xs))
     ∙ omega (arith, length-record (take 32 xs), length-marked n (drop 32 xs), length-take 32 xs, length-drop 32 xs)
+
+-- so that the pass writes the whole table
+pub put-marked : (p : List ℕ) → putAt p 0 (markedPlacement p) ≡ markedPlacement p
+put-marked p = put-whole p (markedPlacement p) (length-marked (length p / 32) p)
 
 first-size : (n : ℕ) (xs : List ℕ) → 32 * suc n ≤ length xs → length (take 32 xs) ≡ 32
 first-size n xs h = simp length-take (omega arith)

@@ -1,10 +1,11 @@
 -- 'Give a pass that sets the mark on every unplaced long; old sheets go through it.'
-use mathlib.Core.Bool.{cond, _&&_}
+use mathlib.Core.Bool.{Bool, true, false, cond, _&&_}
 use mathlib.Core.List.{List, _++_}
 use Prim.Native.Nat.{ℕ, zero, suc, _/_}
 use lib.Dec.{eqb}
 use lib.ListN.{length, set, take, drop}
 use Rattle.records.specs.Legs.{legOf, isLong, withPaid}
+use Rattle.records.specs.Limits.{recordBytes}
 use Rattle.records.specs.Lists.{only, sumOf}
 use Rattle.records.specs.Order.{firstOf}
 use Rattle.records.specs.Tables.{tableChecks, legsOf}
@@ -27,10 +28,10 @@ markedRecord r = cond (unpaidLong (legOf r)) (set r paidAt 1) r
 -- the first n records of a table each so
 unfoldable pub markedFirst : ℕ → List ℕ → List ℕ
 markedFirst zero xs = xs
-markedFirst (suc n) xs = markedRecord (take 32 xs) ++ markedFirst n (drop 32 xs)
+markedFirst (suc n) xs = markedRecord (take recordBytes xs) ++ markedFirst n (drop recordBytes xs)
 
 abbrev pub markedPlacement : List ℕ → List ℕ
-markedPlacement p = markedFirst (length p / 32) p
+markedPlacement p = markedFirst (length p / recordBytes) p
 
 -- what that makes of a leg: every unplaced long has the mark
 abbrev pub markedLeg : Leg → Leg
@@ -44,14 +45,14 @@ unfoldable pub marksIn : List ℕ → ℕ
 marksIn p = sumOf markOn (legsOf p)
 
 -- 'the pass gives 1 and 4 and then changes nothing': the refusal, or how many marks were set
-abbrev pub markAnswer : Fault → ℕ → Marked
-markAnswer Nothing n = Marks n
-markAnswer (Is r) n = Refused r
+abbrev pub passAnswer : Fault → ℕ → Marked
+passAnswer Nothing n = Marks n
+passAnswer (Is r) n = Refused r
 
-unfoldable pub markOf : List ℕ → Marked
-markOf p = markAnswer (firstOf (tableChecks Placement p)) (marksIn p)
+unfoldable pub passCall : List ℕ → Marked
+passCall p = passAnswer (firstOf (tableChecks Placement p)) (marksIn p)
 
--- what the table holds then
-unfoldable pub markLeft : Marked → List ℕ → List ℕ
-markLeft (Marks n) p = markedPlacement p
-markLeft (Refused r) p = p
+-- whether the table then is `markedPlacement`, by `leftAfter`
+abbrev pub hasMarked : Marked → Bool
+hasMarked (Marks n) = true
+hasMarked (Refused r) = false

@@ -14,9 +14,9 @@ use Rattle.records.proofs.ListLaws.{allOf-and, allOf-all}
 use Rattle.records.proofs.TableLaws.{Ranges}
 use Rattle.spreads.specs.Spreads.{oneOf, unitsIn}
 use Rattle.spreads.specs.Boxes.{unitsAt, isBoxLeg, evenKinds, boxAt}
-use Rattle.spreads.specs.Boxed.{fitsBox, noKinds, withKind, areEven, boxedAt}
-use Rattle.spreads.specs.Gathered.{withRight}
-use Rattle.spreads.specs.Members.{legIn, legsAt, OneGroup}
+use Rattle.spreads.specs.Steps.Boxed.{fitsBox, noKinds, withKind, areEven, boxedAt}
+use Rattle.spreads.specs.Steps.Gathered.{withRight}
+use Rattle.spreads.specs.Steps.Members.{legAtPlace, legsAt, OneGroup}
 use Rattle.spreads.specs.declared.boxes.Kinds.{Kinds}
 use Rattle.spreads.specs.declared.boxes.Boxed.the-variants.{Units, Not}
 use Rattle.spreads.proofs.MemberLaws.{legs-next, legs-end, members-ranges, members-few}
@@ -37,7 +37,7 @@ module _ {t : Leg → Bool} {xs ms : List ℕ} {i : ℕ} (p : Passed t xs ms i) 
   unfolding allOf
   passed-done h = rw (p .is, legs-end xs ms i h)
 
-  module _ (h : i < length ms) {l : Leg} (e : l ≡ legIn xs (getD ms i 0)) where
+  module _ (h : i < length ms) {l : Leg} (e : l ≡ legAtPlace xs (getD ms i 0)) where
     pub passed-more : t l ≡ true → Passed t xs ms (i + 1)
     unfolding allOf
     passed-more q = record { many = omega arith; is = p .is ∙ rw (legs-next xs ms i l h e, q) }
@@ -88,7 +88,7 @@ walked-units legs r few k e =
 
 -- ---- the answer
 
-module _ {xs ms : List ℕ} (o : OneGroup xs ms) (h : 1 ≤ length ms) (low high : ℕ) {l : Leg} (e : l ≡ legIn xs (getD ms 0 0)) where
+module _ {xs ms : List ℕ} (o : OneGroup xs ms) (h : 1 ≤ length ms) (low high : ℕ) {l : Leg} (e : l ≡ legAtPlace xs (getD ms 0 0)) where
   fits : boxAt low high (legsAt xs ms) ≡ (allOf (fitsBox low high (l .expiry)) (legsAt xs ms) && ltb low high && evenKinds low high (legsAt xs ms))
   fits = box-fits low high (legsAt xs ms) (drop 1 (legsAt xs ms)) l (legs-next xs ms 0 l h e)
 

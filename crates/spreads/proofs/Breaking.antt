@@ -10,12 +10,12 @@ use lib.Dec.{leb, ltb}
 use lib.ListN.{length, take, drop, getD}
 use borrow.Author.Tests.{le-leb, lt-leb, le-ltb, lt-ltb}
 use Rattle.records.specs.declared.legs.Leg.{Leg}
-use Rattle.spreads.specs.Gathered.{withLeg, noFacts, gathered}
-use Rattle.spreads.specs.Members.{legIn, legsAt}
-use Rattle.spreads.specs.Pointing.{brokenBy, factsBroken}
+use Rattle.spreads.specs.Steps.Gathered.{withLeg, noFacts, gathered}
+use Rattle.spreads.specs.Steps.Members.{legAtPlace, legsAt}
+use Rattle.spreads.specs.Steps.Pointing.{brokenBy, factsBroken}
 use Rattle.spreads.specs.declared.facts.Facts.{Facts}
-use Rattle.spreads.proofs.Cuts.{cut}
-use Rattle.spreads.proofs.LowestLaws.{Seeking, seek-none, seek-more, seek-here, seek-done}
+use Rattle.records.proofs.Cuts.{cut}
+use Rattle.records.proofs.LowestLaws.{Seeking, seek-none, seek-more, seek-here, seek-done}
 use Rattle.spreads.proofs.MemberLaws.{length-at, legs-next}
 
 pub later-not : (a b : ℕ) → ltb a b ≡ not (leb b a)
@@ -43,7 +43,7 @@ module _ {number : ℕ} {xs ms : List ℕ} {i : ℕ} {facts : Facts} (b : Breaki
   unfolding factsBroken
   break-done h = seek-done (b .seeking) (rw (length-at xs ms) h)
 
-  module _ (h : i < length ms) {l : Leg} (e : l ≡ legIn xs (getD ms i 0)) {next : Facts} (q : next ≡ withLeg facts l) where
+  module _ (h : i < length ms) {l : Leg} (e : l ≡ legAtPlace xs (getD ms i 0)) {next : Facts} (q : next ≡ withLeg facts l) where
     next-is : next ≡ gathered (take (i + 1) (legsAt xs ms))
     unfolding gathered
     next-is =

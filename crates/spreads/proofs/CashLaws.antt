@@ -21,12 +21,13 @@ use Rattle.records.proofs.ListLaws.{all-map, allOf-and, allOf-all, all-allOf}
 use Rattle.records.proofs.OrderLaws.{first-then, first-stop}
 use Rattle.records.proofs.PassLaws.{clear, pass-left, pass-right}
 use Rattle.spreads.specs.Spreads.{oneOf, groupOf, groupIn, groupRule, Spread}
-use Rattle.spreads.specs.Cash.{FitForCash, isFit, cashRule, cashCall, fitsCash}
+use Rattle.spreads.specs.Cash.{FitForCash, isFit, cashRule, cashCall}
+use Rattle.spreads.specs.Steps.Fitting.{cashDue, fitsCash}
 use Rattle.spreads.specs.Calls.{dueAnswer}
-use Rattle.spreads.specs.Members.{legIn, legsAt}
+use Rattle.spreads.specs.Steps.Members.{legAtPlace, legsAt}
 use Rattle.spreads.specs.Strikes.{worstLoss}
-use Rattle.spreads.specs.declared.calls.Due.{Due}
-use Rattle.spreads.specs.declared.calls.Due.the-variants.{Mills, Refused}
+use Rattle.spreads.specs.declared.answers.Due.{Due}
+use Rattle.spreads.specs.declared.answers.Due.the-variants.{Mills, Refused}
 use Rattle.spreads.proofs.BoxTest.{one-first}
 use Rattle.spreads.proofs.MemberLaws.{legs-next, legs-end}
 use Rattle.spreads.proofs.RuleLaws.{one-of-to-all, all-to-one-of, rule-to-spread, spread-to-no-refusal}
@@ -69,21 +70,17 @@ module _ (xs ms : List ℕ) where
   unfolding isFit allOf oneOf
   none-fit h = rw (legs-end xs ms 0 h)
 
-  pub first-fits : 0 < length ms → {l : Leg} → l ≡ legIn xs (getD ms 0 0) → allOf (fitsCash (l .expiry)) (legsAt xs ms) ≡ isFit (legsAt xs ms)
+  pub first-fits : 0 < length ms → {l : Leg} → l ≡ legAtPlace xs (getD ms 0 0) → allOf (fitsCash (l .expiry)) (legsAt xs ms) ≡ isFit (legsAt xs ms)
   first-fits h {l} e = fit-first (legsAt xs ms) (drop 1 (legsAt xs ms)) l (legs-next xs ms 0 l h e)
 
 -- ---- the answer
 
 module _ (g : ℕ) (legs : List Leg) where
-  -- what is answered of a spread
-  abbrev pub cashDue : Due
-  cashDue = dueAnswer (firstOf (ask (isFit legs) 21 2 g ∷ [])) (worstLoss legs)
-
-  pub fit-due : isFit legs ≡ true → Mills (pos (worstLoss legs)) ≡ cashDue
+  pub fit-due : isFit legs ≡ true → Mills (pos (worstLoss legs)) ≡ cashDue g legs
   unfolding firstOf
   fit-due e = rw e
 
-  pub not-fit-due : isFit legs ≡ false → Refused (refuse 21 2 g) ≡ cashDue
+  pub not-fit-due : isFit legs ≡ false → Refused (refuse 21 2 g) ≡ cashDue g legs
   unfolding firstOf
   not-fit-due e = rw e
 

@@ -10,7 +10,7 @@ use lib.ListN.{length, drop, getD, length-map, List·getD-append}
 use borrow.Author.Tests.{le-leb}
 use Rattle.records.specs.Order.{Check, ask, firstOf, groups}
 use Rattle.records.specs.Tables.{tableChecks, legsOf}
-use Rattle.records.specs.Written.{putAt}
+use Rattle.records.specs.Written.{putAt, leftAfter}
 use Rattle.records.specs.declared.refusals.Fault.{Fault}
 use Rattle.records.specs.declared.refusals.Fault.the-variants.{Nothing, Is}
 use Rattle.records.specs.declared.tables.Kind.the-variants.{Placement}
@@ -21,10 +21,10 @@ use Rattle.spreads.specs.Prices.{net, at}
 use Rattle.spreads.specs.Spreads.{groupOf, groupIn, groupRule, Spread}
 use Rattle.spreads.specs.Strikes.{strikesOf, netsOf}
 use Rattle.spreads.specs.Boxes.{marginOf}
-use Rattle.spreads.specs.Calls.{groupChecks, marginCall, listedAnswer, listedAfter, strikesListed, worksheetCall, listLeft, marginsFrom, groupsChecks, marginsCall}
-use Rattle.spreads.specs.Demands.{merged, SpreadJust, RefusalsName, LegsBeside, PointsOnce, StrikesJust, WorstIsGreatest, MarginRight, MarginGiven, MarginsRight, MarginsGiven, WorksheetRight, WorksheetGiven, Leaves, WorksheetLeaves, MarginsLeave, BoxJust, BoxAnyOrder, BoxAnySplit, BoxNets, MarginsJust, FitJust, CashRight, CashGiven, JoiningNeverCosts, JoiningCosts, JoiningLoses, JoinedBoxCosts}
-use Rattle.spreads.specs.declared.calls.Listed.{Listed}
-use Rattle.spreads.specs.declared.calls.Listed.the-variants.{Entries, Refused}
+use Rattle.spreads.specs.Calls.{groupChecks, marginCall, listedAnswer, listedAfter, strikesListed, worksheetCall, hasListed, marginsFrom, groupsChecks, marginsCall}
+use Rattle.spreads.specs.Demands.{takenTogether, SpreadIff, RefusalsName, LegsBeside, PointsOnce, StrikesExact, WorstIsGreatest, MarginRight, MarginGiven, MarginsRight, MarginsGiven, WorksheetRight, WorksheetGiven, Leaves, WorksheetLeaves, MarginsLeave, BoxIff, BoxAnyOrder, BoxAnySplit, BoxNets, MarginsByKind, FitIff, CashRight, CashGiven, JoiningNeverCosts, JoiningCosts, JoiningLoses, JoinedBoxCosts}
+use Rattle.spreads.specs.declared.answers.Listed.{Listed}
+use Rattle.spreads.specs.declared.answers.Listed.the-variants.{Entries, Refused}
 use Rattle.spreads.proofs.RuleLaws.{rule-to-spread, spread-to-rule, no-refusal-to-spread, spread-to-no-refusal}
 use Rattle.spreads.proofs.Naming.{refusals-name}
 use Rattle.spreads.proofs.Earlier.{legs-beside}
@@ -32,15 +32,15 @@ use Rattle.spreads.proofs.PointLaws.{one-place}
 use Rattle.spreads.proofs.StrikeLaws.{strikes-have, strikes-from, strikes-ascending}
 use Rattle.spreads.proofs.Nets.{worst-greatest}
 use Rattle.spreads.proofs.MarginLists.{length-margins, margin-at}
-use Rattle.spreads.proofs.Merge.{merge, merged-together}
+use Rattle.spreads.proofs.Merge.{merge, takenTogether-together}
 use Rattle.spreads.proofs.Cover.{cover, nothing-less, covers-each}
 use Rattle.spreads.proofs.CashLaws.{fit-facts, facts-fit, due-mills, answered, given}
 use Rattle.spreads.proofs.BoxLaws.{test-to-box, box-to-test, no-box-test, box-margin, other-margin, box-nets, box-worst, join-margins}
 use Rattle.spreads.proofs.Bench.{joined-box-costs}
 use Rattle.spreads.proofs.BoxOrder.{box-swap, box-split, box-join}
 
-pub spread-just : SpreadJust
-spread-just g placement = (no-refusal-to-spread g placement, spread-to-no-refusal g placement)
+pub spread-iff : SpreadIff
+spread-iff g placement = (no-refusal-to-spread g placement, spread-to-no-refusal g placement)
 
 -- ---- 'Point at the leg'
 
@@ -55,16 +55,16 @@ points-once = one-place
 
 -- ---- the strikes, and the greatest loss
 
-pub strikes-just : StrikesJust
-strikes-just legs = (strikes-have legs, strikes-from legs, strikes-ascending legs)
+pub strikes-exact : StrikesExact
+strikes-exact legs = (strikes-have legs, strikes-from legs, strikes-ascending legs)
 
 pub worst-is-greatest : WorstIsGreatest
 worst-is-greatest = worst-greatest
 
 -- ---- European long boxes
 
-pub box-just : BoxJust
-box-just legs = (test-to-box legs, box-to-test legs)
+pub box-iff : BoxIff
+box-iff legs = (test-to-box legs, box-to-test legs)
 
 pub box-any-order : BoxAnyOrder
 box-any-order a b x y = (box-swap a b x y, box-swap a b y x)
@@ -75,13 +75,13 @@ box-any-split a b l m n = (box-split a b l m n, box-join a b l m n)
 pub boxes-net : BoxNets
 boxes-net = box-nets
 
-pub margins-just : MarginsJust
-margins-just legs = record { box = box-margin legs; other = λ h. other-margin legs (no-box-test legs h) }
+pub margins-by-kind : MarginsByKind
+margins-by-kind legs = record { box = box-margin legs; other = λ h. other-margin legs (no-box-test legs h) }
 
 -- ---- cash accounts
 
-pub fit-just : FitJust
-fit-just legs = (fit-facts legs, facts-fit legs)
+pub fit-iff : FitIff
+fit-iff legs = (fit-facts legs, facts-fit legs)
 
 pub cash-right : CashRight
 cash-right placement g mills e =
@@ -129,7 +129,7 @@ unfolding firstOf
 listed-after cs room k p e = rw (first-then cs (ask room 17 0 k ∷ []) (unclear cs p), e)
 
 leaves : {A : Type 0} (answer : Listed) (entries before : List A) → ((n : ℕ) → answer ≡ Entries n → n ≡ length entries)
-    → Leaves answer entries before (listLeft answer entries before)
+    → Leaves answer entries before (leftAfter (hasListed answer) entries before)
 leaves (Entries n) entries before h = rw (h n refl) (put-front before entries, put-past before entries)
 leaves (Refused r) entries before h = refl
 
@@ -224,12 +224,12 @@ margins-leave placement n out =
 
 pub joining-loses : JoiningLoses
 joining-loses g k placement ne sg sk =
-    merge g k (groupOf g placement) (groupOf k placement) (merged g k placement) sg sk (merged-together g k placement ne)
+    merge g k (groupOf g placement) (groupOf k placement) (takenTogether g k placement) sg sk (takenTogether-together g k placement ne)
 
 pub joining-costs : JoiningCosts
 joining-costs g k placement ne sg sk other =
-    join-margins g k (groupOf g placement) (groupOf k placement) (merged g k placement) sg sk (merged-together g k placement ne)
-    (no-box-test (merged g k placement) other)
+    join-margins g k (groupOf g placement) (groupOf k placement) (takenTogether g k placement) sg sk (takenTogether-together g k placement ne)
+    (no-box-test (takenTogether g k placement) other)
 
 pub joining-never-costs : JoiningNeverCosts
 joining-never-costs g k placement ne sg sk joined = joining-costs g k placement ne sg sk

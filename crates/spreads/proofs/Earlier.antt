@@ -13,7 +13,7 @@ use Rattle.records.specs.declared.legs.Leg.{Leg}
 use Rattle.records.proofs.ListLaws.{allOf-append}
 use Rattle.spreads.specs.Spreads.{groupOf, oneOf, doubled, noneDoubled, outlives, noneOutlives, legsUpTo}
 use Rattle.spreads.specs.Demands.{Points, Beside, LegsBeside}
-use Rattle.spreads.proofs.Cuts.{cut, cut-none, cut-map}
+use Rattle.records.proofs.Cuts.{cut, cut-none, cut-map}
 use Rattle.spreads.proofs.PairLaws.{pairs-more, none-more}
 use Rattle.spreads.proofs.PointLaws.{group-in}
 

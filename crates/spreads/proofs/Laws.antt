@@ -17,5 +17,5 @@ pub use Rattle.spreads.proofs.Signed.{abs-minus}
 pub use Rattle.spreads.proofs.GroupSums.{by-group, by-group-upto, total-le, total-ext, legs-in-groups}
 pub use Rattle.spreads.proofs.WorkLaws.{work-all, work-most}
 -- what the calls answer
-pub use Rattle.spreads.proofs.Answers.{list-in}
+pub use Rattle.spreads.proofs.AnswerLaws.{list-in}
 pub use Rattle.spreads.proofs.MarginLists.{length-margins, margin-at}

@@ -14,9 +14,8 @@ use Rattle.records.specs.Tables.{legsOf}
 use Rattle.records.specs.declared.legs.Leg.{Leg}
 use Rattle.records.proofs.ListLaws.{all-at}
 use Rattle.records.proofs.TableLaws.{Ranges, length-legs}
-use Rattle.spreads.specs.Steps.{Checked}
-use Rattle.spreads.specs.Members.{legIn, placesFrom, placesIn, MembersOf}
-use Rattle.spreads.specs.Links.{placesLeft, Next, noLinks, Linked, firstPlace}
+use Rattle.spreads.specs.Steps.Members.{Checked, legAtPlace, placesFrom, placesIn, MembersOf}
+use Rattle.spreads.specs.Steps.Links.{placesLeft, Next, noLinks, Linked, firstPlace}
 use Rattle.spreads.proofs.Bounds.{table-few, table-ranges}
 use Rattle.spreads.proofs.MemberLaws.{leg-at, legs-from}
 
@@ -27,13 +26,13 @@ module _ (xs : List ℕ) where
   unfolding placesLeft placesFrom
   from-none g i h = rw (drop-of-length-le (legsOf xs) {i = i} (rw length-legs h))
 
-  from-in : (g i : ℕ) → i < length xs / 32 → legIn xs i .group ≡ g → placesLeft g xs i ≡ i ∷ placesLeft g xs (i + 1)
+  from-in : (g i : ℕ) → i < length xs / 32 → legAtPlace xs i .group ≡ g → placesLeft g xs i ≡ i ∷ placesLeft g xs (i + 1)
   unfolding placesLeft placesFrom
-  from-in g i h q = rw (legs-from xs i h, eq-eqb (legIn xs i .group) g q)
+  from-in g i h q = rw (legs-from xs i h, eq-eqb (legAtPlace xs i .group) g q)
 
-  from-out : (g i : ℕ) → i < length xs / 32 → (legIn xs i .group ≡ g → ⊥) → placesLeft g xs i ≡ placesLeft g xs (i + 1)
+  from-out : (g i : ℕ) → i < length xs / 32 → (legAtPlace xs i .group ≡ g → ⊥) → placesLeft g xs i ≡ placesLeft g xs (i + 1)
   unfolding placesLeft placesFrom
-  from-out g i h q = rw (legs-from xs i h, ne-eqb (legIn xs i .group) g q)
+  from-out g i h q = rw (legs-from xs i h, ne-eqb (legAtPlace xs i .group) g q)
 
   from-all : (g : ℕ) → placesLeft g xs 0 ≡ placesIn xs g
   unfolding placesLeft
@@ -53,7 +52,7 @@ module _ (xs : List ℕ) (p : Checked xs) where
   pub table-records : length xs / 32 ≤ 256
   table-records = omega (arith, table-few xs p, length-legs xs)
 
-  pub group-fits : (j : ℕ) → j < length xs / 32 → {l : Leg} → l ≡ legIn xs j → l .group ≤ 32
+  pub group-fits : (j : ℕ) → j < length xs / 32 → {l : Leg} → l ≡ legAtPlace xs j → l .group ≤ 32
   group-fits j h {l} e =
       let r : Ranges 32 l = rw (e, ← leg-at xs j h) (all-at (Ranges 32) (legsOf xs) j (legOf []) (table-ranges xs p) (rw length-legs h)) in
       r .group
@@ -94,7 +93,7 @@ module _ (xs : List ℕ) (p : Checked xs) where
       ]
 
   -- record j linked before those that are
-  module _ {links : List ℕ} {j : ℕ} (k : Linked xs links (j + 1)) (h : j < length xs / 32) {l : Leg} (e : l ≡ legIn xs j) where
+  module _ {links : List ℕ} {j : ℕ} (k : Linked xs links (j + 1)) (h : j < length xs / 32) {l : Leg} (e : l ≡ legAtPlace xs j) where
     abbrev withLink : List ℕ
     withLink = set (set links j (getD links (256 + l .group) 0)) (256 + l .group) j
 
@@ -135,7 +134,7 @@ module _ (xs : List ℕ) (p : Checked xs) where
               })
         ]
 
-    step-nexts : (q : ℕ) → j ≤ q → q < length xs / 32 → Next (legIn xs q .group) xs (q + 1) (getD withLink q 0)
+    step-nexts : (q : ℕ) → j ≤ q → q < length xs / 32 → Next (legAtPlace xs q .group) xs (q + 1) (getD withLink q 0)
     step-nexts q a b =
         elim (ℕ-discrete q j) [
           | yes c ↦ rw (c, next-here, ← e) (k .heads (l .group) (group-fits j h e))
@@ -155,7 +154,7 @@ pub record Finding (g : ℕ) (xs links d ms : List ℕ) (n count at : ℕ) : Typ
   pub linked : Linked xs links 0
   pub few : count ≤ at
   pub many : at ≤ 256
-  pub here : at < n → legIn xs at .group ≡ g
+  pub here : at < n → legAtPlace xs at .group ≡ g
   pub is : take count ms ++ placesLeft g xs at ≡ placesIn xs g
 
 pub find-none : (g : ℕ) (xs links d : List ℕ) → Checked xs → Linked xs links 0 → 256 ≤ length d → {at : ℕ} → at ≡ firstPlace links g

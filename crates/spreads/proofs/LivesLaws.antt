@@ -14,8 +14,8 @@ use Rattle.records.proofs.Measures.{most-all, most-bound}
 use Rattle.records.proofs.SameLaws.{bool-eq}
 use Rattle.records.proofs.TableLaws.{Ranges}
 use Rattle.spreads.specs.Spreads.{noneOutlives}
-use Rattle.spreads.specs.Gathered.{withExpiry, withLife, never, noFacts}
-use Rattle.spreads.specs.declared.parts.Lives.{Lives}
+use Rattle.spreads.specs.Steps.Gathered.{withExpiry, withLife, never, noFacts}
+use Rattle.spreads.specs.declared.fact_parts.Lives.{Lives}
 use Rattle.spreads.proofs.RuleLaws.{NoneOutlives, none-outlives-to-all, all-to-none-outlives}
 
 -- 0, before every date, where there is no short

@@ -8,7 +8,7 @@ use lib.Dec.{eqb}
 use lib.ListN.{length, take, getD}
 use lib.Seq.{take-length}
 use borrow.Author.Tests.{ne-eqb}
-use Rattle.records.specs.Lists.{allOf, All}
+use Rattle.records.specs.Lists.{allOf}
 use Rattle.records.specs.Order.{Check, refuse, firstOf}
 use Rattle.records.specs.Tables.{legsOf}
 use Rattle.records.specs.declared.legs.Leg.{Leg}
@@ -16,13 +16,13 @@ use Rattle.records.specs.declared.refusals.Refusal.{Refusal}
 use Rattle.records.specs.declared.refusals.Fault.{Fault}
 use Rattle.records.specs.declared.refusals.Fault.the-variants.{Nothing, Is}
 use Rattle.records.proofs.ListLaws.{all-take}
+use Rattle.records.proofs.PassLaws.{first-all}
 use Rattle.records.proofs.TableLaws.{Ranges}
 use Rattle.spreads.specs.Spreads.{groupOf, oneOf, noneDoubled, noneOutlives, groupRule}
-use Rattle.spreads.specs.Gathered.{gathered, sixToThirteen, ruleKept, factChecks}
-use Rattle.spreads.specs.Search.{firstPair, isClear, laterOf}
-use Rattle.spreads.specs.Steps.{Checked}
-use Rattle.spreads.specs.Members.{legsAt, MembersOf, OneGroup}
-use Rattle.spreads.specs.Pointing.{pointsAtLeg, conditionOf, placeOf, Breaks, brokenAt, factsBroken}
+use Rattle.spreads.specs.Steps.Gathered.{gathered, sixToThirteen, ruleKept, factChecks}
+use Rattle.spreads.specs.Steps.Search.{firstPair, isClear, laterOf}
+use Rattle.spreads.specs.Steps.Members.{Checked, legsAt, MembersOf, OneGroup}
+use Rattle.spreads.specs.Steps.Pointing.{pointsAtLeg, conditionOf, placeOf, Breaks, brokenAt, factsBroken}
 use Rattle.spreads.specs.Demands.{Points, Named, RefusalsName}
 use Rattle.spreads.specs.declared.facts.Facts.{Facts}
 use Rattle.spreads.specs.declared.pairs.Pair.{Pair}
@@ -30,20 +30,10 @@ use Rattle.spreads.proofs.MemberLaws.{length-at, members-are, members-r
 use Rattle.spreads.proofs.SearchLaws.{getD-any}
 use Rattle.spreads.proofs.PairLaws.{clear-is, later-is}
 use Rattle.spreads.proofs.GatheredLaws.{found-checks, broken-by}
-use Rattle.spreads.proofs.LowestLaws.{lowest-same, kept-short}
+use Rattle.records.proofs.LowestLaws.{lowest-same, kept-short}
 use Rattle.spreads.proofs.PointLaws.{broken-place, points}
 
 -- ---- the first check that fails, of any checks
-
--- what holds of the refusal of each check that fails holds of the first
-pub first-all : (P : Refusal → Type 0) (cs : List Check) → All (λ c. c .holds ≡ false → P (c .refusal)) cs → (r : Refusal) → firstOf cs ≡ Is r → P r
-unfolding firstOf
-first-all P [] a r e = let z : _≡_ {A = ℕ} 0 1 = cc in absurd (omega arith)
-first-all P (c ∷ cs) a r e = go (c .holds) refl e (first-all P cs (a .1) r)
-  where
-    go : (b : Bool) → c .holds ≡ b → cond b (firstOf cs) (Is (c .refusal)) ≡ Is r → (firstOf cs ≡ Is r → P r) → P r
-    go true q x f = f x
-    go false q x f = let s : c .refusal ≡ r = cc in rw s at (a .0 q)
 
 -- the same check with another refusal
 abbrev refusing : (Refusal → Refusal) → Check → Check

@@ -13,12 +13,13 @@ use borrow.Author.Tests.{eqb-true}
 use Rattle.records.specs.Lists.{keep}
 use Rattle.records.specs.declared.legs.Leg.{Leg}
 use Rattle.records.proofs.ListLaws.{keep-append}
-use Rattle.spreads.specs.Spreads.{groupOf, lowestFrom, legsUpTo, firstBroken}
-use Rattle.spreads.specs.Members.{placesFrom}
-use Rattle.spreads.specs.Pointing.{brokenAt}
+use Rattle.spreads.specs.Spreads.{groupOf, legsUpTo, firstBroken}
+use Rattle.records.specs.Search.{lowestFrom}
+use Rattle.spreads.specs.Steps.Members.{placesFrom}
+use Rattle.spreads.specs.Steps.Pointing.{brokenAt}
 use Rattle.spreads.specs.Demands.{groupAt, Points, PointsOnce}
-use Rattle.spreads.proofs.Cuts.{cut, cut-at, cut-past, cut-none, cut-map}
-use Rattle.spreads.proofs.LowestLaws.{kept-to, kept-short, kept-no-more}
+use Rattle.records.proofs.Cuts.{cut, cut-at, cut-past, cut-none, cut-map}
+use Rattle.records.proofs.LowestLaws.{kept-to, kept-short, kept-no-more}
 
 -- ---- one record more
 

@@ -1,6 +1,6 @@
 -- How many intrinsic values are worked out: group after group, in groups that have no legs none, and never more than 65,536.
-use Prim.Native.Nat.{ℕ, _+_, _*_, _≤_, _<_}
-use mathlib.Core.Path.{_≡_, refl, ap, _∙_}
+use Prim.Native.Nat.{ℕ, _+_, _*_, _≤_}
+use mathlib.Core.Path.{_≡_, refl, _∙_}
 use mathlib.Core.List.{List, []}
 use native.Mathlib.Nat.{mul-le-mul-left}
 use native.Mathlib.Numerals.{add-one}
@@ -10,7 +10,7 @@ use Rattle.records.specs.Lists.{All}
 use Rattle.records.specs.Tables.{legsOf}
 use Rattle.records.specs.declared.legs.Leg.{Leg}
 use Rattle.spreads.specs.Spreads.{groupOf}
-use Rattle.spreads.specs.Steps.{Checked}
+use Rattle.spreads.specs.Steps.Members.{Checked}
 use Rattle.spreads.specs.Strikes.{strikesOf}
 use Rattle.spreads.specs.Work.{total, valuesOf, workUpTo, workOf}
 use Rattle.spreads.proofs.Bounds.{legs-few, table-few}

@@ -1,9 +1,8 @@
 -- Document 02, request 7: 'Cash accounts'.
 use Prim.Native.Nat.{ℕ}
 use mathlib.Core.Path.{_≡_}
-use mathlib.Core.Bool.{Bool, _&&_, cond}
+use mathlib.Core.Bool.{Bool, _&&_}
 use mathlib.Core.List.{List, [], _∷_, _++_}
-use lib.Dec.{eqb}
 use Rattle.records.specs.Lists.{allOf, All}
 use Rattle.records.specs.Legs.{isEuropean, isCash}
 use Rattle.records.specs.Order.{Check, ask, firstOf}
@@ -12,9 +11,8 @@ use Rattle.records.specs.declared.legs.Leg.{Leg}
 use Rattle.records.specs.declared.tables.Kind.the-variants.{Placement}
 use Rattle.spreads.specs.Spreads.{oneOf, groupOf, groupIn, groupRule}
 use Rattle.spreads.specs.Strikes.{worstLoss}
-use Rattle.spreads.specs.Boxes.{marginOf}
 use Rattle.spreads.specs.Calls.{dueAnswer}
-use Rattle.spreads.specs.declared.calls.Due.{Due}
+use Rattle.spreads.specs.declared.answers.Due.{Due}
 
 -- ---- a group fit for a cash account, as facts
 
@@ -38,13 +36,3 @@ cashRule g placement = groupRule g placement ++ ask (isFit (groupOf g placement)
 -- 'then the cash required is its margin by document 01, without the half of [2]'
 unfoldable pub cashCall : List ℕ → ℕ → Due
 cashCall xs g = dueAnswer (firstOf (tableChecks Placement xs ++ cashRule g (legsOf xs))) (worstLoss (groupIn xs g))
-
--- ---- what the steps of the call compute, for the contracts of functions that are not public
-
--- what is asked of each leg by itself
-unfoldable pub fitsCash : ℕ → Leg → Bool
-fitsCash expiry l = isEuropean l && isCash l && eqb (l .expiry) expiry
-
--- what a group is asked, with the half of [2] or without it
-unfoldable pub requiredOf : Bool → List Leg → ℕ
-requiredOf halved legs = cond halved (marginOf legs) (worstLoss legs)

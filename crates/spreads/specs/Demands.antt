@@ -10,9 +10,11 @@ use lib.Dec.{eqb}
 use lib.IntN.{ℤ, pos, negℤ}
 use lib.ListN.{length, take, drop, getD}
 use lib.Signed.{_≤ℤ_}
-use Rattle.records.specs.Lists.{keep, All}
+use Rattle.records.specs.Lists.{keep, All, Ascending}
+use Rattle.records.specs.Limits.{mostGroups}
 use Rattle.records.specs.Legs.{contractsFrom, withContracts, inRange}
 use Rattle.records.specs.Order.{firstOf}
+use Rattle.records.specs.Written.{leftAfter}
 use Rattle.records.specs.Tables.{tableChecks, legsOf}
 use Rattle.records.specs.declared.legs.Leg.{Leg}
 use Rattle.records.specs.declared.refusals.Refusal.{Refusal}
@@ -24,14 +26,14 @@ use Rattle.spreads.specs.Strikes.{strikesOf, worstLoss, netsOf}
 use Rattle.spreads.specs.Boxes.{LongBox, isLongBox, halfOf, marginOf}
 use Rattle.spreads.specs.Cash.{FitForCash, isFit, cashCall}
 use Rattle.spreads.specs.Bench.{verticals}
-use Rattle.spreads.specs.Calls.{marginCall, worksheetCall, listLeft, marginsFrom, marginsCall}
-use Rattle.spreads.specs.declared.calls.Due.the-variants.{Mills}
-use Rattle.spreads.specs.declared.calls.Listed.{Listed}
-use Rattle.spreads.specs.declared.calls.Listed.the-variants.{Entries, Refused}
+use Rattle.spreads.specs.Calls.{marginCall, worksheetCall, hasListed, marginsFrom, marginsCall}
+use Rattle.spreads.specs.declared.answers.Due.the-variants.{Mills}
+use Rattle.spreads.specs.declared.answers.Listed.{Listed}
+use Rattle.spreads.specs.declared.answers.Listed.the-variants.{Entries, Refused}
 
 -- 'They are a spread when all hold': just then 6 to 13 refuse nothing
-abbrev pub SpreadJust : Type 0
-SpreadJust = (g : ℕ) (placement : List Leg) → (firstOf (groupRule g placement) ≡ Nothing) ↔ Spread g (groupOf g placement)
+abbrev pub SpreadIff : Type 0
+SpreadIff = (g : ℕ) (placement : List Leg) → (firstOf (groupRule g placement) ≡ Nothing) ↔ Spread g (groupOf g placement)
 
 -- ---- 'Point at the leg'
 
@@ -85,14 +87,9 @@ PointsOnce = (kept : List Leg → Bool) (g : ℕ) (placement : List Leg) (a b : 
 
 -- ---- the strikes, and the greatest loss
 
--- each above the one before
-abbrev pub Ascending : List ℕ → Type 0
-Ascending [] = Unit {0}
-Ascending (k ∷ ks) = All (λ j. k < j) ks × Ascending ks
-
 -- 'the group's distinct strikes, ascending': the strike of every leg, and no other
-abbrev pub StrikesJust : Type 0
-StrikesJust = (legs : List Leg) → All (λ l. List·Memᴰ (l .strike) (strikesOf legs)) legs
+abbrev pub StrikesExact : Type 0
+StrikesExact = (legs : List Leg) → All (λ l. List·Memᴰ (l .strike) (strikesOf legs)) legs
     × All (λ k. (l : Leg) × List·Memᴰ l legs × (l .strike ≡ k)) (strikesOf legs)
     × Ascending (strikesOf legs)
 
@@ -106,8 +103,8 @@ WorstIsGreatest = (legs : List Leg) → Greatest (pos (worstLoss legs)) (pos 0 �
 -- ---- 'European long boxes'
 
 -- the test passes just where the sentence holds
-abbrev pub BoxJust : Type 0
-BoxJust = (legs : List Leg) → (isLongBox legs ≡ true) ↔ LongBox legs
+abbrev pub BoxIff : Type 0
+BoxIff = (legs : List Leg) → (isLongBox legs ≡ true) ↔ LongBox legs
 
 -- the leg with so many contracts
 abbrev pub ofContracts : ℕ → Leg → Leg
@@ -127,18 +124,18 @@ BoxNets = (legs : List Leg) (b : LongBox legs) (d n : ℕ)
     → longAt d (at n) legs ≡ shortAt d (at n) legs + d * (b .units * (b .high - b .low))
 
 -- 'Its margin is half of units times the difference, a half mill rounded up'; that of any other group is its worst loss
-pub record MarginJust (legs : List Leg) : Type 0 where
+pub record MarginByKind (legs : List Leg) : Type 0 where
   pub box : (b : LongBox legs) → marginOf legs ≡ halfOf (b .units) (b .low) (b .high)
   pub other : ¬ LongBox legs → marginOf legs ≡ worstLoss legs
 
-abbrev pub MarginsJust : Type 0
-MarginsJust = (legs : List Leg) → MarginJust legs
+abbrev pub MarginsByKind : Type 0
+MarginsByKind = (legs : List Leg) → MarginByKind legs
 
 -- ---- 'Cash accounts'
 
 -- the check passes just where the sentence holds
-abbrev pub FitJust : Type 0
-FitJust = (legs : List Leg) → (isFit legs ≡ true) ↔ FitForCash legs
+abbrev pub FitIff : Type 0
+FitIff = (legs : List Leg) → (isFit legs ≡ true) ↔ FitForCash legs
 
 -- 'a spread, all European, all stated as cash, one expiry; then the cash required is its margin by document 01': it covers
 -- the group at every price, and nothing less does; a long box needs none
@@ -176,7 +173,7 @@ MarginsRight = (placement : List ℕ) (n : ℕ) (out : List ℤ) (m : ℕ) → m
     → (m ≡ n)
     × ((g : ℕ) → 1 ≤ g → g ≤ n
     → Spread g (groupIn placement g)
-    × (getD (listLeft (Entries m) (marginsFrom (legsOf placement) 1 n) out) (g - 1) (pos 0) ≡ pos (marginOf (groupIn placement g))))
+    × (getD (leftAfter (hasListed (Entries m)) (marginsFrom (legsOf placement) 1 n) out) (g - 1) (pos 0) ≡ pos (marginOf (groupIn placement g))))
 
 abbrev pub MarginsGiven : Type 0
 MarginsGiven = (placement : List ℕ) (n room : ℕ) → firstOf (tableChecks Placement placement) ≡ Nothing
@@ -189,8 +186,8 @@ WorksheetRight = (placement : List ℕ) (g : ℕ) (strikes : List ℕ) (nets : L
     → (let legs = groupIn placement g in
     Spread g legs
     × (n ≡ length (strikesOf legs))
-    × (take n (listLeft (Entries n) (strikesOf legs) strikes) ≡ strikesOf legs)
-    × (take n (listLeft (Entries n) (netsOf legs) nets) ≡ netsOf legs))
+    × (take n (leftAfter (hasListed (Entries n)) (strikesOf legs) strikes) ≡ strikesOf legs)
+    × (take n (leftAfter (hasListed (Entries n)) (netsOf legs) nets) ≡ netsOf legs))
 
 abbrev pub WorksheetGiven : Type 0
 WorksheetGiven = (placement : List ℕ) (g a b : ℕ) → firstOf (tableChecks Placement placement) ≡ Nothing → Spread g (groupIn placement g)
@@ -209,44 +206,44 @@ abbrev pub WorksheetLeaves : Type 0
 WorksheetLeaves = (placement : List ℕ) (g : ℕ) (strikes : List ℕ) (nets : List ℤ)
     → (let answer = worksheetCall placement g (length strikes) (length nets) in
     let legs = groupIn placement g in
-    Leaves answer (strikesOf legs) strikes (listLeft answer (strikesOf legs) strikes) × Leaves answer (netsOf legs) nets (listLeft answer (netsOf legs) nets))
+    Leaves answer (strikesOf legs) strikes (leftAfter (hasListed answer) (strikesOf legs) strikes) × Leaves answer (netsOf legs) nets (leftAfter (hasListed answer) (netsOf legs) nets))
 
 abbrev pub MarginsLeave : Type 0
 MarginsLeave = (placement : List ℕ) (n : ℕ) (out : List ℤ)
     → (let answer = marginsCall placement n (length out) in
     let margins = marginsFrom (legsOf placement) 1 n in
-    Leaves answer margins out (listLeft answer margins out))
+    Leaves answer margins out (leftAfter (hasListed answer) margins out))
 
 -- ---- 'Joining groups never costs more'
 
 -- the legs of groups g and k taken together, in the placement's order
-unfoldable pub merged : ℕ → ℕ → List Leg → List Leg
-merged g k legs = keep (λ l. eqb (l .group) g || eqb (l .group) k) legs
+unfoldable pub takenTogether : ℕ → ℕ → List Leg → List Leg
+takenTogether g k legs = keep (λ l. eqb (l .group) g || eqb (l .group) k) legs
 
 -- 'If two groups, and their legs taken together, are all spreads, and the joined group is no box under [2], .. its margin is
 -- at most the sum of the two.'
 abbrev pub JoiningNeverCosts : Type 0
 JoiningNeverCosts = (g k : ℕ) (placement : List Leg) → g ≢ k → Spread g (groupOf g placement) → Spread k (groupOf k placement)
-    → Spread g (merged g k placement) → ¬ LongBox (merged g k placement)
-    → marginOf (merged g k placement) ≤ marginOf (groupOf g placement) + marginOf (groupOf k placement)
+    → Spread g (takenTogether g k placement) → ¬ LongBox (takenTogether g k placement)
+    → marginOf (takenTogether g k placement) ≤ marginOf (groupOf g placement) + marginOf (groupOf k placement)
 
 -- that follows from more: what is joined need not be a spread
 abbrev pub JoiningCosts : Type 0
 JoiningCosts = (g k : ℕ) (placement : List Leg) → g ≢ k → Spread g (groupOf g placement) → Spread k (groupOf k placement)
-    → ¬ LongBox (merged g k placement)
-    → marginOf (merged g k placement) ≤ marginOf (groupOf g placement) + marginOf (groupOf k placement)
+    → ¬ LongBox (takenTogether g k placement)
+    → marginOf (takenTogether g k placement) ≤ marginOf (groupOf g placement) + marginOf (groupOf k placement)
 
 -- and two groups that are spreads never lose more together than by themselves, long box or not
 abbrev pub JoiningLoses : Type 0
 JoiningLoses = (g k : ℕ) (placement : List Leg) → g ≢ k → Spread g (groupOf g placement) → Spread k (groupOf k placement)
-    → worstLoss (merged g k placement) ≤ worstLoss (groupOf g placement) + worstLoss (groupOf k placement)
+    → worstLoss (takenTogether g k placement) ≤ worstLoss (groupOf g placement) + worstLoss (groupOf k placement)
 
 -- long boxes must be excepted: two European verticals of no margin join into one, which is asked its half
 pub record JoinedBoxCosts : Type 0 where
-  pub ranges : All (λ l. inRange 32 l ≡ true) verticals
+  pub ranges : All (λ l. inRange mostGroups l ≡ true) verticals
   pub calls : Spread 1 (groupOf 1 verticals)
   pub puts : Spread 2 (groupOf 2 verticals)
-  pub joined : Spread 1 (merged 1 2 verticals)
-  pub box : LongBox (merged 1 2 verticals)
+  pub joined : Spread 1 (takenTogether 1 2 verticals)
+  pub box : LongBox (takenTogether 1 2 verticals)
   pub before : marginOf (groupOf 1 verticals) + marginOf (groupOf 2 verticals) ≡ 0
-  pub after : marginOf (merged 1 2 verticals) ≡ 500_000
+  pub after : marginOf (takenTogether 1 2 verticals) ≡ 500_000

@@ -2,13 +2,12 @@
 use Prim.Native.Nat.{ℕ, zero, suc, _+_, _*_}
 use mathlib.Core.List.{List}
 use lib.ListN.{length}
+use Rattle.records.specs.Limits.{mostGroups}
 use Rattle.records.specs.declared.legs.Leg.{Leg}
-use Rattle.records.specs.declared.refusals.Refusal.{Refusal}
 use Rattle.spreads.specs.Spreads.{groupOf}
 use Rattle.spreads.specs.Strikes.{strikesOf}
-use Rattle.spreads.specs.declared.calls.Listed.{Listed}
-use Rattle.spreads.specs.declared.calls.Listed.the-variants.{Entries, Refused}
-use Rattle.spreads.specs.declared.calls.Priced.{Priced}
+use Rattle.spreads.specs.declared.answers.Listed.{Listed}
+use Rattle.spreads.specs.declared.answers.Listed.the-variants.{Entries, Refused}
 
 -- F 1 + .. + F n
 unfoldable pub total : ℕ → (ℕ → ℕ) → ℕ
@@ -25,7 +24,7 @@ workUpTo n placement = total n (λ g. valuesOf (groupOf g placement))
 
 -- 'that count, taken from the placement alone': over every group that a placement can have
 unfoldable pub workOf : List Leg → ℕ
-workOf placement = workUpTo 32 placement
+workOf placement = workUpTo mostGroups placement
 
 -- ---- beside the margins of groups
 
@@ -33,6 +32,3 @@ workOf placement = workUpTo 32 placement
 abbrev pub workListed : Listed → ℕ → ℕ
 workListed (Entries n) work = work
 workListed (Refused r) work = 0
-
-abbrev pub refusedPrice : Refusal → Priced
-refusedPrice r = record { listed = Refused r; values = 0 }

@@ -2,11 +2,11 @@
 ghost use mathlib.Core.Path.{_≡_};
 ghost use Prim.Native.Nat.{_≤_};
 ghost use lib.ListN.{length};
-ghost use Rattle.spreads.specs.Members.{legsAt, OneGroup};
+ghost use Rattle.spreads.specs.Steps.Members.{legsAt, OneGroup};
 ghost use Rattle.spreads.specs.Boxes.{isBoxLeg};
-ghost use Rattle.spreads.specs.Boxed.{fitsBox, noKinds, withKind, areEven, boxedAt};
+ghost use Rattle.spreads.specs.Steps.Boxed.{fitsBox, noKinds, withKind, areEven, boxedAt};
+use crate::fact_parts::Sides;
 use crate::members::member;
-use crate::parts::Sides;
 use records::CALL;
 use records::EUROPEAN;
 use records::LONG;

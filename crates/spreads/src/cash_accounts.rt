@@ -1,24 +1,18 @@
 // 'Cash accounts': document 02, request 7.
 ghost use mathlib.Core.Path.{_≡_};
-ghost use mathlib.Core.List.{[], _∷_};
 ghost use Rattle.records.specs.Lists.{allOf};
-ghost use Rattle.records.specs.Order.{ask, firstOf};
+ghost use Rattle.records.specs.Order.{firstOf};
 ghost use Rattle.records.specs.Tables.{legsOf};
 ghost use Rattle.spreads.specs.Calls.{dueAnswer};
-ghost use Rattle.spreads.specs.Cash.{fitsCash, isFit, cashRule, cashCall};
-ghost use Rattle.spreads.specs.Links.{Linked};
-ghost use Rattle.spreads.specs.Members.{legsAt, OneGroup};
+ghost use Rattle.spreads.specs.Steps.Fitting.{fitsCash, cashDue};
+ghost use Rattle.spreads.specs.Cash.{isFit, cashRule, cashCall};
+ghost use Rattle.spreads.specs.Steps.Members.{legsAt, OneGroup, Checked};
 ghost use Rattle.spreads.specs.Spreads.{groupIn};
-ghost use Rattle.spreads.specs.Steps.{Checked};
-ghost use Rattle.spreads.specs.Strikes.{worstLoss};
-use crate::calls::Due;
-use crate::links::LINKS;
-use crate::links::NOWHERE;
-use crate::links::find_members;
-use crate::links::link_groups;
+ghost use Rattle.spreads.specs.Strikes.{strikesOf, worstLoss};
+use crate::answers::Due;
+use crate::group::find_alone;
 use crate::members::member;
-use crate::required::required_of;
-use crate::rule::group_fault;
+use crate::walk::worst_at;
 use records::CASH;
 use records::Counted;
 use records::EUROPEAN;
@@ -62,13 +56,14 @@ fn fit_for_cash(placement: &[u8], members: &[u16]) -> bool
     all_fit(placement, members, member(placement, members, 0).expiry)
 }
 
-// 21, then the worst loss of a spread whose legs stand at these places.
-fn members_cash(placement: &[u8], g: usize, members: &[u16]) -> Due
+// 21, then the worst loss of a spread with these legs and strikes.
+fn members_cash(placement: &[u8], g: usize, members: &[u16], prices: &[u32]) -> Due
     requires { ⌜ OneGroup (now placement) (now members) ⌝ }
-    ensures { λ r. ⌜ r ≡ dueAnswer (firstOf (ask (isFit (legsAt (now (placement .entry)) (now (members .entry)))) 21 2 g ∷ [])) (worstLoss (legsAt (now (placement .entry)) (now (members .entry)))) ⌝ }
+    requires { ⌜ now prices ≡ strikesOf (legsAt (now placement) (now members)) ⌝ }
+    ensures { λ r. ⌜ r ≡ cashDue g (legsAt (now (placement .entry)) (now (members .entry))) ⌝ }
 {
     if fit_for_cash(placement, members) {
-        return Due::Mills(required_of(false, placement, members).mills as i64);
+        return Due::Mills(worst_at(placement, members, prices).mills as i64);
     }
     Due::Refused(Refusal {
         number: 21,
@@ -77,27 +72,20 @@ fn members_cash(placement: &[u8], g: usize, members: &[u16]) -> Due
     })
 }
 
-// The same of group g of a checked placement.
-fn group_cash(placement: &[u8], links: &[u16], g: usize) -> Due
-    requires { ⌜ Checked (now placement) ⌝ }
-    requires { ⌜ Linked (now placement) (now links) 0 ⌝ }
-    ensures { λ r. ⌜ r ≡ dueAnswer (firstOf (ask (isFit (groupIn (now (placement .entry)) g)) 21 2 g ∷ [])) (worstLoss (groupIn (now (placement .entry)) g)) ⌝ }
-{
-    let mut members = [0u16; MOST_LEGS];
-    let count = find_members(placement, links, g, &mut members);
-    members_cash(placement, g, &members[..count])
-}
-
 // 6 to 13 of group g of a checked placement, 21, then its worst loss.
 fn checked_cash(placement: &[u8], g: usize) -> Due
     requires { ⌜ Checked (now placement) ⌝ }
     ensures { λ r. ⌜ r ≡ dueAnswer (firstOf (cashRule g (legsOf (now (placement .entry))))) (worstLoss (groupIn (now (placement .entry)) g)) ⌝ }
 {
-    let mut links = [NOWHERE; LINKS];
-    link_groups(placement, &mut links);
-    match group_fault(placement, &links, g) {
+    let mut members = [0u16; MOST_LEGS];
+    let mut prices = [0u32; MOST_LEGS];
+    let found = find_alone(placement, g, &mut members, &mut prices);
+    let legs = found.legs;
+    let strikes = found.strikes;
+    let fault = found.fault;
+    match fault {
         Fault::Is(refusal) => Due::Refused(refusal),
-        Fault::Nothing => group_cash(placement, &links, g),
+        Fault::Nothing => members_cash(placement, g, &members[..legs], &prices[..strikes]),
     }
 }
 

@@ -2,9 +2,9 @@
 ghost use mathlib.Core.Path.{_≡_};
 ghost use Prim.Native.Nat.{_≤_};
 ghost use lib.ListN.{length, take};
-ghost use Rattle.spreads.specs.Steps.{Checked};
-ghost use Rattle.spreads.specs.Members.{MembersOf};
-ghost use Rattle.spreads.specs.Links.{noLinks, Linked, firstPlace};
+ghost use Rattle.records.specs.Limits.{mostLegs};
+ghost use Rattle.spreads.specs.Steps.Members.{Checked, MembersOf};
+ghost use Rattle.spreads.specs.Steps.Links.{linksLong, noLinks, Linked, firstPlace};
 use records::MOST_GROUPS;
 use records::MOST_LEGS;
 use records::RECORD_BYTES;
@@ -32,7 +32,7 @@ pub(crate) fn link_groups(placement: &[u8], links: &mut [u16])
 }
 
 fn first_place(links: &[u16], g: usize) -> usize
-    requires { ⌜ length (now links) ≡ 289 ⌝ }
+    requires { ⌜ length (now links) ≡ linksLong ⌝ }
     ensures { λ r. ⌜ r ≡ firstPlace (now (links .entry)) g ⌝ }
 {
     if g <= MOST_GROUPS as usize {
@@ -46,8 +46,8 @@ fn first_place(links: &[u16], g: usize) -> usize
 pub(crate) fn find_members(placement: &[u8], links: &[u16], g: usize, members: &mut [u16]) -> usize
     requires { ⌜ Checked (now placement) ⌝ }
     requires { ⌜ Linked (now placement) (now links) 0 ⌝ }
-    requires { ⌜ 256 ≤ length (now members) ⌝ }
-    ensures { λ r. ⌜ (r ≤ 256) × MembersOf (now (placement .entry)) g (take r (now (members .exit))) ⌝ }
+    requires { ⌜ mostLegs ≤ length (now members) ⌝ }
+    ensures { λ r. ⌜ (r ≤ mostLegs) × MembersOf (now (placement .entry)) g (take r (now (members .exit))) ⌝ }
 {
     let n = placement.len() / RECORD_BYTES;
     let mut count: usize = 0;

@@ -1,10 +1,9 @@
 // 'Point at the leg': document 02, request 14. Only a group that is refused is walked once more, for its leg.
 ghost use mathlib.Core.Path.{_≡_};
 ghost use Rattle.records.specs.Tables.{legsOf};
-ghost use Rattle.spreads.specs.Steps.{Checked};
-ghost use Rattle.spreads.specs.Members.{legsAt, MembersOf, OneGroup};
-ghost use Rattle.spreads.specs.Search.{firstPair};
-ghost use Rattle.spreads.specs.Pointing.{pointsAtLeg, conditionOf, placeOf, Breaks, brokenAt, brokenBy, factsBroken};
+ghost use Rattle.spreads.specs.Steps.Members.{Checked, legsAt, MembersOf, OneGroup};
+ghost use Rattle.spreads.specs.Steps.Search.{firstPair};
+ghost use Rattle.spreads.specs.Steps.Pointing.{pointsAtLeg, conditionOf, placeOf, Breaks, brokenAt, brokenBy, factsBroken};
 use crate::facts::Facts;
 use crate::members::member;
 use crate::pairs::Pair;

@@ -8,13 +8,15 @@ use lib.Dec.{eqb, leb}
 use lib.ListN.{length, getD}
 use borrow.Author.Tests.{eqb-true, le-leb, eqb-false}
 use Rattle.records.specs.Dates.{realDate}
-use Rattle.records.specs.Legs.{mostContracts, inRange, termsInRange}
+use Rattle.records.specs.Limits.{mostContracts}
+use Rattle.records.specs.Legs.{inRange, termsInRange}
 use Rattle.records.specs.Lists.{allOf}
 use Rattle.records.specs.Within.{within}
 use Rattle.records.specs.declared.legs.Leg.{Leg}
 use Rattle.records.proofs.ListLaws.{allOf-append}
 use Rattle.records.proofs.TableLaws.{within-true}
-use Rattle.symbols.specs.Digits.{blank, newline, isBlank, isLetter, isDigit}
+use Rattle.records.specs.Text.{newline}
+use Rattle.symbols.specs.Digits.{blank, isBlank, isLetter, isDigit}
 use Rattle.symbols.specs.Lines.{isRight, isSide, rightChar, rightSaid, sideChar, sideSaid}
 use Rattle.symbols.specs.Roots.{goodName, padded}
 

@@ -8,14 +8,15 @@ use borrow.Author.Tests.{le-leb, leb-true}
 use Rattle.records.specs.Chunks.{recordsOf}
 use Rattle.records.specs.Lists.{All}
 use Rattle.records.specs.Order.{ask, firstOf}
-use Rattle.records.specs.Tables.{mostLegs, wholeTable}
+use Rattle.records.specs.Limits.{mostLegs}
+use Rattle.records.specs.Tables.{wholeTable, goodUnpaid}
 use Rattle.records.specs.declared.refusals.Fault.the-variants.{Nothing}
 use Rattle.records.specs.declared.tables.Kind.the-variants.{Holdings}
 use Rattle.records.proofs.OrderLaws.{first-then}
 use Rattle.records.proofs.PassLaws.{Pass, clear, unclear, pass-left, pass-right}
 use Rattle.symbols.specs.Lines.{linesOf, wellFormed, lineSays, lineInRange}
 use Rattle.symbols.specs.Roots.{rootsOf, rootChecks}
-use Rattle.symbols.specs.Calls.{knownRoot, lineChecks, recordRoom, importChecks, importOf, goodUnpaid, knownTerms, recordChecks, listOf, listRoom, exportChecks, exportOf}
+use Rattle.symbols.specs.Calls.{knownRoot, lineChecks, recordRoom, importChecks, importCall, knownTerms, recordChecks, listOf, listRoom, exportChecks, exportCall}
 use Rattle.symbols.specs.declared.imports.Imported.the-variants.{Records}
 use Rattle.symbols.specs.declared.exports.Exported.the-variants.{Bytes}
 use Rattle.symbols.proofs.AnswerLaws.{imported-records, exported-bytes}
@@ -59,8 +60,8 @@ pub record Imports (roots list : List ℕ) : Type 0 where
   pub lines : All (TakenLine (rootsOf roots)) (linesOf list)
   pub few : length (linesOf list) ≤ mostLegs
 
-pub import-clear : (roots list : List ℕ) (room n : ℕ) → importOf roots list room ≡ Records n → Imports roots list × (n ≡ length (linesOf list))
-unfolding importOf importChecks recordRoom
+pub import-clear : (roots list : List ℕ) (room n : ℕ) → importCall roots list room ≡ Records n → Imports roots list × (n ≡ length (linesOf list))
+unfolding importCall importChecks recordRoom
 import-clear roots list room n e =
     let r = imported-records (firstOf (importChecks roots list room)) (length (linesOf list)) n (sym e) in
     let lines = lineChecks (rootsOf roots) 0 (linesOf list) in
@@ -75,8 +76,8 @@ import-clear roots list room n e =
       r .1,
     )
 
-pub clear-import : (roots list : List ℕ) (room : ℕ) → Imports roots list → 32 * length (linesOf list) ≤ room → importOf roots list room ≡ Records (length (linesOf list))
-unfolding importOf importChecks recordRoom firstOf
+pub clear-import : (roots list : List ℕ) (room : ℕ) → Imports roots list → 32 * length (linesOf list) ≤ room → importCall roots list room ≡ Records (length (linesOf list))
+unfolding importCall importChecks recordRoom firstOf
 clear-import roots list room i h =
     rw (
       first-then _ _ (i .table),
@@ -90,8 +91,8 @@ pub record Exports (roots holdings : List ℕ) : Type 0 where
   pub whole : wholeTable Holdings (length holdings) ≡ true
   pub records : All (TakenRecord (rootsOf roots)) (recordsOf holdings)
 
-pub export-clear : (roots h : List ℕ) (room n : ℕ) → exportOf roots h room ≡ Bytes n → Exports roots h × (n ≡ length (listOf roots h))
-unfolding exportOf exportChecks
+pub export-clear : (roots h : List ℕ) (room n : ℕ) → exportCall roots h room ≡ Bytes n → Exports roots h × (n ≡ length (listOf roots h))
+unfolding exportCall exportChecks
 export-clear roots h room n e =
     let r = exported-bytes (firstOf (exportChecks roots h room)) (length (listOf roots h)) n (sym e) in
     let records = recordChecks (rootsOf roots) 0 (recordsOf h) in
@@ -107,8 +108,8 @@ export-clear roots h room n e =
       r .1,
     )
 
-pub clear-export : (roots h : List ℕ) (room : ℕ) → Exports roots h → length (listOf roots h) ≤ room → exportOf roots h room ≡ Bytes (length (listOf roots h))
-unfolding exportOf exportChecks listRoom firstOf
+pub clear-export : (roots h : List ℕ) (room : ℕ) → Exports roots h → length (listOf roots h) ≤ room → exportCall roots h room ≡ Bytes (length (listOf roots h))
+unfolding exportCall exportChecks listRoom firstOf
 clear-export roots h room i r =
     rw (
       first-then _ _ (i .table),

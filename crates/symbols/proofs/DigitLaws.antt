@@ -15,7 +15,8 @@ use Rattle.records.specs.Written.{putAt}
 use Rattle.records.proofs.ListLaws.{allOf-append}
 use Rattle.records.proofs.PutLaws.{put-none}
 use Rattle.records.proofs.TableLaws.{within-true}
-use Rattle.symbols.specs.Digits.{digit, isDigit, lastDigits, valueFrom, valueOf, placesOf}
+use Rattle.records.specs.Text.{digit, valueFrom, valueOf}
+use Rattle.symbols.specs.Digits.{isDigit, lastDigits, placesOf}
 
 -- ---- written
 

@@ -7,22 +7,23 @@ use borrow.Author.Tests.{lt-ltb, le-ltb, ltb-true}
 use mathlib.Core.List.{List, [], _∷_, flatten}
 use native.Mathlib.Omega.{arith}
 use lib.ListN.{length, getD, length-append}
-use Rattle.records.specs.Chunks.{chunkAt, chunksFrom, recordsOf}
+use Rattle.records.specs.Steps.Rest.{chunksFrom}
+use Rattle.records.specs.Chunks.{chunkAt, recordsOf}
 use Rattle.records.specs.Legs.{legOf}
 use Rattle.records.specs.Order.{refuse, firstOf}
-use Rattle.records.specs.Tables.{goodRecord}
+use Rattle.records.specs.Tables.{goodRecord, goodUnpaid}
 use Rattle.records.specs.declared.legs.Leg.{Leg}
 use Rattle.records.specs.declared.tables.Kind.the-variants.{Holdings}
 use Rattle.records.specs.Written.{putAt}
 use Rattle.records.specs.declared.refusals.Fault.the-variants.{Is}
 use Rattle.records.proofs.ChunkLaws.{chunks-all, chunks-step, chunks-none}
 use Rattle.records.proofs.PutLaws.{put-none, put-put}
-use Rattle.symbols.specs.Calls.{goodUnpaid, placeOfRecord, knownTerms, lineOfRecord, recordChecks, linesFor, exported}
+use Rattle.symbols.specs.Calls.{placeOfRecord, knownTerms, lineOfRecord, recordChecks, linesFor, exportAnswer}
 use Rattle.symbols.specs.Roots.{rootsOf, nameOf, placeOfTerms, legTerms}
 use Rattle.symbols.specs.Lines.{lineText}
 use Rattle.symbols.proofs.LineLaws.{line-short}
 use Rattle.symbols.proofs.RootLaws.{length-roots, root-at, name-length}
-use Rattle.symbols.specs.Steps.{recordNumber}
+use Rattle.symbols.specs.Steps.Numbers.{recordNumber}
 use Rattle.symbols.specs.declared.exports.Exported.the-variants.{Bytes, Refused}
 
 -- ---- one record
@@ -123,7 +124,7 @@ module _ (roots : List (List ℕ)) (h text₀ : List ℕ) where
       next = chunks-step 32 (length h / 32) i h k
 
       pub taking-stop : (n : ℕ) → n ≡ recordNumber roots this → (n ≡ 0 → ⊥) → (bytes : ℕ)
-          → Refused (refuse n 1 i) ≡ exported (firstOf (recordChecks roots 0 (recordsOf h))) bytes
+          → Refused (refuse n 1 i) ≡ exportAnswer (firstOf (recordChecks roots 0 (recordsOf h))) bytes
       taking-stop n q f bytes = rw (t .faults, next, record-refused roots i this (leftOf h (i + 1)) n q f)
 
       pub taking-more : recordNumber roots this ≡ 0 → (text′ : List ℕ) (to : ℕ) → length text′ ≡ length text → to ≡ at + length (lineOfRecord roots this)
@@ -147,7 +148,7 @@ module _ (roots : List (List ℕ)) (h text₀ : List ℕ) where
       unfolding linesFor flatten
       taken-bytes = sym (t .bytes ∙ rw none (omega arith))
 
-      pub taking-over : Bytes at ≡ exported (firstOf (recordChecks roots 0 (recordsOf h))) (length (linesFor roots (recordsOf h)))
+      pub taking-over : Bytes at ≡ exportAnswer (firstOf (recordChecks roots 0 (recordsOf h))) (length (linesFor roots (recordsOf h)))
       unfolding recordChecks firstOf
       taking-over = rw (t .faults, none, ← taken-bytes)
 

@@ -19,8 +19,8 @@ use Rattle.symbols.specs.Lines.{linesOf, rootIn, wellFormed, lineSays, l
 use Rattle.symbols.specs.declared.lines.Line.{Line}
 use Rattle.symbols.specs.declared.roots.Terms.{Terms}
 use Rattle.symbols.proofs.RootLaws.{length-roots, root-at}
-use Rattle.symbols.specs.Calls.{placeOfLine, knownRoot, legOfLine, lineChecks, recordsFor, imported}
-use Rattle.symbols.specs.Steps.{lineLength, lineNumber}
+use Rattle.symbols.specs.Calls.{placeOfLine, knownRoot, legOfLine, lineChecks, recordsFor, importAnswer}
+use Rattle.symbols.specs.Steps.Numbers.{lineLength, lineNumber}
 use Rattle.symbols.specs.declared.imports.Imported.the-variants.{Records, Refused}
 use Rattle.symbols.proofs.SplitLaws.{line-some, line-within, lines-step, lines-none}
 
@@ -125,7 +125,7 @@ module _ (roots : List (List ℕ)) (list rows₀ : List ℕ) where
           (omega arith, omega arith)
 
       pub taking-stop : (n : ℕ) → n ≡ lineNumber roots line → (n ≡ 0 → ⊥) → (lines : ℕ)
-          → Refused (refuse n 6 i) ≡ imported (firstOf (lineChecks roots 0 (linesOf list))) lines
+          → Refused (refuse n 6 i) ≡ importAnswer (firstOf (lineChecks roots 0 (linesOf list))) lines
       taking-stop n q f lines = rw (t .faults, next-line, line-refused roots i line (linesOf (drop end list)) n q f)
 
       pub taking-more : lineNumber roots line ≡ 0 → (rows′ : List ℕ) → length rows′ ≡ length rows
@@ -154,7 +154,7 @@ module _ (roots : List (List ℕ)) (list rows₀ : List ℕ) where
       pub taken-count : i ≡ length (linesOf list)
       taken-count = sym (t .count ∙ rw none (omega arith))
 
-      pub taking-over : Records i ≡ imported (firstOf (lineChecks roots 0 (linesOf list))) (length (linesOf list))
+      pub taking-over : Records i ≡ importAnswer (firstOf (lineChecks roots 0 (linesOf list))) (length (linesOf list))
       unfolding lineChecks firstOf
       taking-over = rw (t .faults, none, ← taken-count)
 

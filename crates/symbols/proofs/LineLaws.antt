@@ -9,7 +9,8 @@ use Rattle.records.specs.Within.{within}
 use Rattle.records.specs.Written.{putAt}
 use Rattle.records.proofs.TableLaws.{within-true}
 use Rattle.records.specs.declared.legs.Leg.{Leg}
-use Rattle.symbols.specs.Digits.{blank, newline, lastDigits, placesOf}
+use Rattle.records.specs.Text.{newline}
+use Rattle.symbols.specs.Digits.{blank, lastDigits, placesOf}
 use Rattle.symbols.specs.Lines.{rightChar, sideChar, wellFormed, symbolText, lineText}
 use Rattle.symbols.proofs.DigitLaws.{length-digits, places-most}
 use Rattle.symbols.proofs.WriteLaws.{put-byte, put-then}

@@ -9,11 +9,13 @@ use lib.ListN.{length, getD, take, drop, length-take, length-drop}
 use lib.Seq.{take-add, take-all, take-suc, getD-take, getD-drop}
 use borrow.Author.Tests.{eqb-true, not-true, eqb-false}
 use Rattle.records.specs.Dates.{realDate}
-use Rattle.records.specs.Legs.{mostContracts, inRange, termsInRange}
+use Rattle.records.specs.Limits.{mostContracts}
+use Rattle.records.specs.Legs.{inRange, termsInRange}
 use Rattle.records.specs.Lists.{allOf}
 use Rattle.records.specs.Within.{within}
 use Rattle.records.proofs.TableLaws.{ranges, within-true}
-use Rattle.symbols.specs.Digits.{blank, newline, isDigit, digit, lastDigits, valueOf, placesOf}
+use Rattle.records.specs.Text.{newline, digit, valueOf}
+use Rattle.symbols.specs.Digits.{blank, isDigit, lastDigits, placesOf}
 use Rattle.symbols.specs.Lines.{rootIn, dateIn, strikeIn, contractsIn, isRight, isSide, rightChar, rightSaid, sideChar, sideSaid, wellFormed, lineSays, lineInRange, lineLeg, symbolText, lineText}
 use Rattle.symbols.specs.Roots.{goodName, goodTerms}
 use Rattle.symbols.specs.declared.roots.Terms.{Terms}

@@ -9,16 +9,16 @@ use Rattle.records.specs.Chunks.{recordsOf}
 use Rattle.records.specs.Legs.{legOf, legBytes, isPaid}
 use Rattle.records.specs.Lists.{All}
 use Rattle.records.specs.Order.{firstOf}
-use Rattle.records.specs.Tables.{tableChecks, fieldChecks, countedOf, goodRecord, legsOf}
+use Rattle.records.specs.Tables.{tableChecks, fieldChecks, checkCall, goodRecord, legsOf, goodUnpaid}
 use Rattle.records.specs.Written.{putAt}
 use Rattle.records.specs.declared.refusals.Fault.the-variants.{Nothing}
 use Rattle.records.specs.declared.tables.Kind.the-variants.{Holdings}
 use Rattle.records.proofs.ChunkLaws.{length-chunks}
 use Rattle.records.proofs.ListLaws.{all-map, map-all}
 use Rattle.records.proofs.PassLaws.{unclear, each-pass}
-use Rattle.records.proofs.PutLaws.{put-front, put-past}
+use Rattle.records.proofs.PutLaws.{left-stands}
 use Rattle.records.proofs.TableLaws.{whole}
-use Rattle.symbols.specs.Calls.{legOfLine, recordsFor, holdingsOf, goodUnpaid, lineOfRecord, linesFor, importOf, importLeaves, listOf, exportOf, exportLeaves}
+use Rattle.symbols.specs.Calls.{legOfLine, recordsFor, holdingsOf, lineOfRecord, linesFor, importCall, listOf, exportCall}
 use Rattle.symbols.specs.Demands.{ImportInOrder, ExportInOrder, ListFits, CallsImportBack, CallsExportBack, ImportSound, ImportUnpaid, EmptyListGood, LeftByImport, ImportLeaves, LeftByExport, ExportLeaves}
 use Rattle.symbols.specs.Lines.{linesOf}
 use Rattle.symbols.specs.Roots.{rootsOf}
@@ -39,7 +39,7 @@ unfolding goodUnpaid
 unpaid-good roots xs t = and-eq-true-iff (goodRecord Holdings xs) (not (isPaid (legOf xs))) .0 (t .good) .0
 
 pub import-sound : ImportSound
-unfolding countedOf tableChecks fieldChecks firstOf
+unfolding checkCall tableChecks fieldChecks firstOf
 import-sound t list room n e =
     let c = import-clear t list room n e in
     let i = c .0 in
@@ -98,7 +98,6 @@ list-fits t h room n e =
 -- ---- one after the other
 
 pub calls-import-back : CallsImportBack
-unfolding exportLeaves importLeaves
 calls-import-back t h out d n a e k =
     let r = import-of-export t h a (length out) n e in
     let q = export-clear t h (length out) n e .1 in
@@ -106,7 +105,6 @@ calls-import-back t h out d n a e k =
     rw l (r .0 (length d) k, rw (r .1))
 
 pub calls-export-back : CallsExportBack
-unfolding exportLeaves importLeaves
 calls-export-back t list d out n e k =
     let c = import-clear t list (length d) n e in
     let r = export-of-import t list (length d) n e in
@@ -117,19 +115,17 @@ calls-export-back t list d out n e k =
 -- ---- what is left in a lent slice
 
 pub import-leaves : ImportLeaves
-unfolding importLeaves
-import-leaves t list d = go (importOf t list (length d)) refl
+import-leaves t list d = go (importCall t list (length d)) refl
   where
-    go : (r : Imported) → importOf t list (length d) ≡ r → LeftByImport r t list d
+    go : (r : Imported) → importCall t list (length d) ≡ r → LeftByImport r t list d
     go (Records n) e =
         let c = import-clear t list (length d) n e in
-        (made-length t list (c .0) ∙ rw (c .1), (put-front d (holdingsOf t list), put-past d (holdingsOf t list)))
+        (made-length t list (c .0) ∙ rw (c .1), left-stands d (holdingsOf t list))
     go (Refused r) e = refl
 
 pub export-leaves : ExportLeaves
-unfolding exportLeaves
-export-leaves t h d = go (exportOf t h (length d)) refl
+export-leaves t h d = go (exportCall t h (length d)) refl
   where
-    go : (r : Exported) → exportOf t h (length d) ≡ r → LeftByExport r t h d
-    go (Bytes n) e = (sym (export-clear t h (length d) n e .1), (put-front d (listOf t h), put-past d (listOf t h)))
+    go : (r : Exported) → exportCall t h (length d) ≡ r → LeftByExport r t h d
+    go (Bytes n) e = (sym (export-clear t h (length d) n e .1), left-stands d (listOf t h))
     go (NotExported r) e = refl

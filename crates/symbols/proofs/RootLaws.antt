@@ -9,7 +9,8 @@ use lib.Dec.{eqb}
 use lib.ListN.{length, getD, take, drop, length-take, length-drop}
 use lib.Seq.{take-suc, getD-take, length-take-le}
 use borrow.Author.Tests.{eqb-true, not-true}
-use Rattle.records.specs.Chunks.{chunkAt, chunksFrom}
+use Rattle.records.specs.Steps.Rest.{chunksFrom}
+use Rattle.records.specs.Chunks.{chunkAt}
 use Rattle.records.specs.Lists.{same, allOf}
 use Rattle.records.specs.Order.{ask, refuse, firstOf}
 use Rattle.records.specs.Within.{within}

@@ -11,7 +11,7 @@ use Rattle.records.specs.Bytes.{AllBytes, zeroIn}
 use Rattle.records.specs.Chunks.{recordsOf}
 use Rattle.records.specs.Legs.{legOf, legBytes, inRange, goodLeg, isPaid}
 use Rattle.records.specs.Lists.{All}
-use Rattle.records.specs.Tables.{goodRecord, wholeTable}
+use Rattle.records.specs.Tables.{goodRecord, wholeTable, goodUnpaid}
 use Rattle.records.specs.declared.legs.Leg.{Leg}
 use Rattle.records.specs.declared.tables.Kind.the-variants.{Holdings}
 use Rattle.records.proofs.ChunkLaws.{length-chunks, chunks-each}
@@ -19,7 +19,7 @@ use Rattle.records.proofs.JoinLaws.{join-cut, records-joined}
 use Rattle.records.proofs.LegLaws.{leg-back, leg-good, length-leg-bytes}
 use Rattle.records.proofs.ListLaws.{map-all, every}
 use Rattle.records.proofs.TableLaws.{ranges, whole}
-use Rattle.symbols.specs.Calls.{placeOfLine, knownRoot, legOfLine, recordsFor, holdingsOf, goodUnpaid, placeOfRecord, knownTerms, lineOfRecord, linesFor, listOf}
+use Rattle.symbols.specs.Calls.{placeOfLine, knownRoot, legOfLine, recordsFor, holdingsOf, placeOfRecord, knownTerms, lineOfRecord, linesFor, listOf}
 use Rattle.symbols.specs.Demands.{ImportOfExport, ExportOfImport, OneList}
 use Rattle.symbols.specs.Lines.{linesOf, rootIn, lineSays, lineLeg, lineText}
 use Rattle.symbols.specs.Roots.{rootsOf, nameOf, termsOf, legTerms}

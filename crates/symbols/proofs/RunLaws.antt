@@ -8,9 +8,10 @@ use lib.ListN.{length, getD, drop, drop-of-length-le}
 use lib.Seq.{drop-cons}
 use borrow.Author.Tests.{ne-eqb}
 use Rattle.records.specs.Lists.{allOf}
-use Rattle.symbols.specs.Digits.{newline, isBlank, isLetter, isDigit, valueFrom}
+use Rattle.records.specs.Text.{newline, valueFrom}
+use Rattle.symbols.specs.Digits.{isBlank, isLetter, isDigit}
 use Rattle.symbols.specs.Roots.{padded}
-use Rattle.symbols.specs.Steps.{lineLength}
+use Rattle.symbols.specs.Steps.Numbers.{lineLength}
 
 -- the byte at i, and those behind it
 pub from-next : (l : List ℕ) (i : ℕ) → i < length l → drop i l ≡ getD l i 0 ∷ drop (i + 1) l

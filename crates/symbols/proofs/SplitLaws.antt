@@ -9,9 +9,9 @@ use lib.Dec.{eqb, leb}
 use lib.ListN.{length, take, drop}
 use borrow.Author.Tests.{ne-eqb, leb-true}
 use Rattle.records.specs.Lists.{allOf, All}
-use Rattle.symbols.specs.Digits.{newline}
-use Rattle.symbols.specs.Lines.{onto, linesOf}
-use Rattle.symbols.specs.Steps.{lineLength}
+use Rattle.records.specs.Text.{newline, onto}
+use Rattle.symbols.specs.Lines.{linesOf}
+use Rattle.symbols.specs.Steps.Numbers.{lineLength}
 
 pub line-some : (l : List ℕ) → 1 ≤ length l → 1 ≤ lineLength l
 unfolding lineLength

@@ -8,10 +8,12 @@ use lib.Dec.{eqb}
 use lib.ListN.{length, getD, drop, length-append, drop-of-length-le, List·getD-append}
 use lib.Seq.{take-at, getD-at, drop-cons}
 use borrow.Author.Tests.{ne-eqb, le-leb}
-use Rattle.records.specs.Legs.{mostContracts, inRange}
+use Rattle.records.specs.Limits.{mostContracts}
+use Rattle.records.specs.Legs.{inRange}
 use Rattle.records.specs.declared.legs.Leg.{Leg}
 use Rattle.records.proofs.TableLaws.{ranges}
-use Rattle.symbols.specs.Digits.{blank, newline, digit, lastDigits, placesOf}
+use Rattle.records.specs.Text.{newline, digit}
+use Rattle.symbols.specs.Digits.{blank, lastDigits, placesOf}
 use Rattle.symbols.specs.Lines.{rootIn, dateIn, strikeIn, contractsIn, rightChar, sideChar, wellFormed, lineSays, lineInRange, lineLeg, symbolText, lineText}
 use Rattle.symbols.specs.Roots.{goodName, legTerms}
 use Rattle.symbols.proofs.DigitLaws.{length-digits, digits-good, value-digits, places-most, Fewest, fewest}

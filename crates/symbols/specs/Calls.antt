@@ -1,14 +1,14 @@
 -- What import and export answer, and what they leave in the slice that they are lent.
 use Prim.Native.Nat.{ℕ, _+_, _*_}
-use mathlib.Core.Bool.{Bool, not, _&&_}
+use mathlib.Core.Bool.{Bool, true, false}
 use mathlib.Core.List.{List, [], _∷_, _++_, map, flatten}
 use lib.Dec.{leb, ltb}
 use lib.ListN.{length, getD}
 use Rattle.records.specs.Chunks.{recordsOf}
-use Rattle.records.specs.Legs.{legOf, legBytes, isPaid}
+use Rattle.records.specs.Legs.{legOf, legBytes}
 use Rattle.records.specs.Order.{Check, ask, firstOf}
-use Rattle.records.specs.Tables.{mostLegs, goodRecord, wholeTable}
-use Rattle.records.specs.Written.{putAt}
+use Rattle.records.specs.Limits.{recordBytes, mostLegs}
+use Rattle.records.specs.Tables.{goodUnpaid, wholeTable}
 use Rattle.records.specs.declared.legs.Leg.{Leg}
 use Rattle.records.specs.declared.refusals.Fault.{Fault}
 use Rattle.records.specs.declared.refusals.Fault.the-variants.{Nothing, Is}
@@ -40,7 +40,7 @@ lineChecks roots i (xs ∷ lines) =
 
 -- 'then 1 for more than 256 lines; then 17, table 1 .., bytes needed'
 unfoldable pub recordRoom : ℕ → ℕ → List Check
-recordRoom lines room = ask (leb lines mostLegs) 1 0 0 ∷ ask (leb (32 * lines) room) 17 1 (32 * lines) ∷ []
+recordRoom lines room = ask (leb lines mostLegs) 1 0 0 ∷ ask (leb (recordBytes * lines) room) 17 1 (recordBytes * lines) ∷ []
 
 unfoldable pub importChecks : List ℕ → List ℕ → ℕ → List Check
 importChecks roots list room =
@@ -53,24 +53,20 @@ recordsFor roots lines = flatten (map (λ xs. legBytes (legOfLine roots xs)) lin
 unfoldable pub holdingsOf : List ℕ → List ℕ → List ℕ
 holdingsOf roots list = recordsFor (rootsOf roots) (linesOf list)
 
-abbrev pub imported : Fault → ℕ → Imported
-imported Nothing records = Records records
-imported (Is r) records = Refused r
+abbrev pub importAnswer : Fault → ℕ → Imported
+importAnswer Nothing records = Records records
+importAnswer (Is r) records = Refused r
 
 -- with a lent table of so many bytes
-unfoldable pub importOf : List ℕ → List ℕ → ℕ → Imported
-importOf roots list room = imported (firstOf (importChecks roots list room)) (length (linesOf list))
+unfoldable pub importCall : List ℕ → List ℕ → ℕ → Imported
+importCall roots list room = importAnswer (firstOf (importChecks roots list room)) (length (linesOf list))
 
--- what the lent table holds then: the holdings from byte 0, what lies past them stays; on a refusal all stays
-unfoldable pub importLeaves : Imported → List ℕ → List ℕ → List ℕ
-importLeaves (Records n) holdings d = putAt d 0 holdings
-importLeaves (Refused r) holdings d = d
+-- whether the lent table then has the holdings, `leftAfter`
+abbrev pub hasImported : Imported → Bool
+hasImported (Records n) = true
+hasImported (Refused r) = false
 
 -- ---- 'export is the reverse'
-
--- '4, field out of range, where export also refuses mark 1'
-unfoldable pub goodUnpaid : List ℕ → Bool
-goodUnpaid xs = goodRecord Holdings xs && not (isPaid (legOf xs))
 
 -- the entry of a record's terms
 unfoldable pub placeOfRecord : List (List ℕ) → List ℕ → ℕ
@@ -82,7 +78,7 @@ knownTerms roots xs = ltb (placeOfRecord roots xs) (length roots)
 unfoldable pub lineOfRecord : List (List ℕ) → List ℕ → List ℕ
 lineOfRecord roots xs = lineText (nameOf (getD roots (placeOfRecord roots xs) [])) (legOf xs)
 
--- 'per .. record .. 4 ..; 24, .. terms not in the table'; the first is record i
+-- 'per .. record .. 4, field out of range, where export also refuses mark 1; 24, .. terms not in the table'; the first is record i
 unfoldable pub recordChecks : List (List ℕ) → ℕ → List (List ℕ) → List Check
 recordChecks roots i [] = []
 recordChecks roots i (xs ∷ records) =
@@ -106,14 +102,14 @@ exportChecks roots holdings room =
     ++ (ask (wholeTable Holdings (length holdings)) 1 0 0
     ∷ (recordChecks (rootsOf roots) 0 (recordsOf holdings) ++ listRoom (length (listOf roots holdings)) room))
 
-abbrev pub exported : Fault → ℕ → Exported
-exported Nothing bytes = Bytes bytes
-exported (Is r) bytes = NotExported r
+abbrev pub exportAnswer : Fault → ℕ → Exported
+exportAnswer Nothing bytes = Bytes bytes
+exportAnswer (Is r) bytes = NotExported r
 
 -- with a lent list of so many bytes
-unfoldable pub exportOf : List ℕ → List ℕ → ℕ → Exported
-exportOf roots holdings room = exported (firstOf (exportChecks roots holdings room)) (length (listOf roots holdings))
+unfoldable pub exportCall : List ℕ → List ℕ → ℕ → Exported
+exportCall roots holdings room = exportAnswer (firstOf (exportChecks roots holdings room)) (length (listOf roots holdings))
 
-unfoldable pub exportLeaves : Exported → List ℕ → List ℕ → List ℕ
-exportLeaves (Bytes n) list d = putAt d 0 list
-exportLeaves (NotExported r) list d = d
+abbrev pub hasExported : Exported → Bool
+hasExported (Bytes n) = true
+hasExported (NotExported r) = false

@@ -1,15 +1,13 @@
 -- Characters of a list, and decimal digits: said once for dates, strikes and contracts.
-use Prim.Native.Nat.{ℕ, zero, suc, _+_, _-_, _*_, _/_, _%_}
+use Prim.Native.Nat.{ℕ, zero, suc, _/_, _%_}
 use mathlib.Core.Bool.{Bool, cond}
 use mathlib.Core.List.{List, [], _∷_, _++_}
 use lib.Dec.{eqb, ltb}
+use Rattle.records.specs.Text.{digit}
 use Rattle.records.specs.Within.{within}
 
 abbrev pub blank : ℕ
 blank = 32
-
-abbrev pub newline : ℕ
-newline = 10
 
 abbrev pub isBlank : ℕ → Bool
 isBlank c = eqb c blank
@@ -22,23 +20,10 @@ isLetter c = within 65 90 c
 abbrev pub isDigit : ℕ → Bool
 isDigit c = within 48 57 c
 
--- the character of a digit 0 to 9
-abbrev pub digit : ℕ → ℕ
-digit d = 48 + d
-
 -- the last `width` decimal digits of n, most significant first
 unfoldable pub lastDigits : ℕ → ℕ → List ℕ
 lastDigits zero n = []
 lastDigits (suc width) n = lastDigits width (n / 10) ++ digit (n % 10) ∷ []
-
--- digits read from the left, after digits that said `left`
-unfoldable pub valueFrom : ℕ → List ℕ → ℕ
-valueFrom left [] = left
-valueFrom left (d ∷ ds) = valueFrom (10 * left + (d - 48)) ds
-
--- the number that digits say
-abbrev pub valueOf : List ℕ → ℕ
-valueOf ds = valueFrom 0 ds
 
 -- in how few digits a number of at most six is written, 'the first not 0'
 unfoldable pub placesOf : ℕ → ℕ

@@ -5,20 +5,18 @@ use mathlib.Core.List.{List, [], _∷_, _++_}
 use lib.Dec.{eqb}
 use lib.ListN.{length, getD, take, drop}
 use Rattle.records.specs.Dates.{realDate}
-use Rattle.records.specs.Legs.{mostContracts, contractsFrom}
+use Rattle.records.specs.Limits.{mostContracts}
+use Rattle.records.specs.Legs.{contractsFrom}
 use Rattle.records.specs.Lists.{allOf}
 use Rattle.records.specs.Within.{within}
 use Rattle.records.specs.declared.legs.Leg.{Leg}
-use Rattle.symbols.specs.Digits.{blank, newline, isDigit, digit, lastDigits, valueOf, placesOf}
-use Rattle.symbols.specs.Roots.{goodName}
+use Rattle.records.specs.Text.{newline, digit, valueOf, onto}
+use Rattle.symbols.specs.Digits.{blank, isDigit, lastDigits, placesOf}
+use Rattle.symbols.specs.Roots.{nameBytes, goodName}
 use Rattle.symbols.specs.declared.lines.Line.{Line}
 use Rattle.symbols.specs.declared.roots.Terms.{Terms}
 
 -- ---- lines
-
-abbrev pub onto : ℕ → List (List ℕ) → List (List ℕ)
-onto c [] = (c ∷ []) ∷ []
-onto c (line ∷ lines) = (c ∷ line) ∷ lines
 
 -- a list cut after each newline; bytes after the last newline are a line that has none. 'An empty list is good': it has no lines
 unfoldable pub linesOf : List ℕ → List (List ℕ)
@@ -29,7 +27,7 @@ linesOf (c ∷ cs) = cond (eqb c newline) ((c ∷ []) ∷ linesOf cs) (onto c (l
 
 -- 'root of 6'
 abbrev pub rootIn : List ℕ → List ℕ
-rootIn xs = take 6 xs
+rootIn xs = take nameBytes xs
 
 -- 'YYMMDD'
 abbrev pub dateIn : List ℕ → List ℕ
@@ -65,10 +63,17 @@ sideChar side = cond (eqb side 1) 76 83
 abbrev pub sideSaid : ℕ → ℕ
 sideSaid c = cond (eqb c 76) 1 2
 
+-- of 21 characters, three more, 1 to 6 digits and a newline
+abbrev pub shortestLine : ℕ
+shortestLine = 26
+
+abbrev pub longestLine : ℕ
+longestLine = 31
+
 -- 'A line is the symbol, blank, L or S, blank, contracts as 1 to 6 digits, the first not 0, newline.'
 unfoldable pub wellFormed : List ℕ → Bool
 wellFormed xs =
-    within 26 31 (length xs)
+    within shortestLine longestLine (length xs)
     && (goodName (rootIn xs)
     && allOf isDigit (dateIn xs)
     && isRight (getD xs 12 0)

@@ -14,15 +14,25 @@ use Rattle.records.specs.declared.legs.Leg.{Leg}
 use Rattle.symbols.specs.Digits.{isBlank, isLetter, isDigit}
 use Rattle.symbols.specs.declared.roots.Terms.{Terms}
 
+-- 'A lent table of 1 to 256 roots has 16 bytes each: 0-5 root'
+abbrev pub rootBytes : ℕ
+rootBytes = 16
+
+abbrev pub mostRoots : ℕ
+mostRoots = 256
+
+abbrev pub nameBytes : ℕ
+nameBytes = 6
+
 -- the entries of a table of roots
 unfoldable pub rootsOf : List ℕ → List (List ℕ)
-rootsOf t = chunks 16 (length t / 16) t
+rootsOf t = chunks rootBytes (length t / rootBytes) t
 
 -- ---- one entry
 
 -- '0-5 root'
 abbrev pub nameOf : List ℕ → List ℕ
-nameOf e = take 6 e
+nameOf e = take nameBytes e
 
 -- '6 style, 7 market, 8-9 unit size, 10 settlement, .. 12-15 underlying'
 unfoldable pub termsOf : List ℕ → Terms
@@ -43,7 +53,7 @@ padded (c ∷ cs) = cond (isBlank c) (allOf isBlank cs) ((isLetter c || isDigit 
 
 -- 'A root is 1 to 6 of A-Z and 0-9, a letter first', in 6 characters
 unfoldable pub goodName : List ℕ → Bool
-goodName cs = eqb (length cs) 6 && isLetter (getD cs 0 0) && padded cs
+goodName cs = eqb (length cs) nameBytes && isLetter (getD cs 0 0) && padded cs
 
 -- the ranges that document 01 gives these fields of a leg
 unfoldable pub goodTerms : Terms → Bool
@@ -76,7 +86,7 @@ askRoots before i (e ∷ es) = ask (goodRoot e && fresh before e) 23 5 i ∷ ask
 
 -- '1 to 256 roots' of 16 bytes each
 abbrev pub wholeRoots : ℕ → Bool
-wholeRoots bytes = eqb (bytes % 16) 0 && within 1 256 (bytes / 16)
+wholeRoots bytes = eqb (bytes % rootBytes) 0 && within 1 mostRoots (bytes / rootBytes)
 
 -- '.. or 0 for a wrong size'
 unfoldable pub rootChecks : List ℕ → List Check

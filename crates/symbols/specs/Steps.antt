@@ -1,21 +1,4 @@
--- What the steps of the two calls compute, for the contracts of functions that are not public.
-use Prim.Native.Nat.{ℕ, _+_}
-use mathlib.Core.Bool.{cond}
-use mathlib.Core.List.{List, [], _∷_}
-use lib.Dec.{eqb}
-use Rattle.symbols.specs.Digits.{newline}
-use Rattle.symbols.specs.Lines.{wellFormed, lineSays, lineInRange}
-use Rattle.symbols.specs.Calls.{knownRoot, goodUnpaid, knownTerms}
-
--- how far the first line of a list goes, with its newline; all of it where there is none
-unfoldable pub lineLength : List ℕ → ℕ
-lineLength [] = 0
-lineLength (c ∷ cs) = cond (eqb c newline) 1 (lineLength cs + 1)
-
--- the number that a line is refused with, or 0
-unfoldable pub lineNumber : List (List ℕ) → List ℕ → ℕ
-lineNumber roots xs = cond (wellFormed xs) (cond (lineInRange (lineSays xs)) (cond (knownRoot roots xs) 0 24) 4) 22
-
--- the number that a record is refused with, or 0
-unfoldable pub recordNumber : List (List ℕ) → List ℕ → ℕ
-recordNumber roots xs = cond (goodUnpaid xs) (cond (knownTerms roots xs) 0 24) 4
+-- What the steps of this crate's functions compute, for the contracts of functions that are not public: nothing here has to be
+-- believed by one who reads the promises.
+pub mod Numbers
+pub mod Taken

@@ -4,7 +4,8 @@ ghost use Prim.Native.Nat.{_+_, _-_, _≤_};
 ghost use lib.ListN.{length};
 ghost use Rattle.records.specs.Lists.{allOf};
 ghost use Rattle.records.specs.Written.{putAt};
-ghost use Rattle.symbols.specs.Digits.{isDigit, valueOf, lastDigits, placesOf};
+ghost use Rattle.records.specs.Text.{valueOf};
+ghost use Rattle.symbols.specs.Digits.{isDigit, lastDigits, placesOf};
 
 pub(crate) fn is_digit(c: u8) -> bool
     ensures { λ r. ⌜ r ≡ isDigit c ⌝ }

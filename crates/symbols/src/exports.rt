@@ -1,15 +1,14 @@
 // Export: holdings made into a list of symbols.
 ghost use mathlib.Core.Path.{_≡_};
-ghost use mathlib.Core.List.{_++_};
 ghost use Prim.Native.Nat.{_+_, _≤_, _<_, _/_};
 ghost use lib.ListN.{length, take};
-ghost use Rattle.records.specs.Chunks.{chunkAt, recordsOf};
+ghost use Rattle.records.specs.Chunks.{chunkAt};
 ghost use Rattle.records.specs.Order.{firstOf};
-ghost use Rattle.records.specs.Written.{putAt};
+ghost use Rattle.records.specs.Written.{putAt, leftAfter};
 ghost use Rattle.symbols.specs.Roots.{rootsOf};
-ghost use Rattle.symbols.specs.Calls.{lineOfRecord, recordChecks, listRoom, exported, exportOf, exportLeaves, listOf};
-ghost use Rattle.symbols.specs.Steps.{recordNumber};
-use crate::bytes::copy_to;
+ghost use Rattle.symbols.specs.Calls.{listRoom, exportAnswer, exportCall, listOf, hasExported};
+ghost use Rattle.symbols.specs.Steps.Numbers.{recordNumber};
+ghost use Rattle.symbols.specs.Steps.Taken.{lineAt, recordsAnswer, RecordsTaken, listAnswer};
 use crate::lines::LIST_TABLE;
 use crate::lines::LONGEST_LINE;
 use crate::lines::put_line;
@@ -44,8 +43,8 @@ pub struct Taken {
 fn take_record(roots: &[u8], holdings: &[u8], i: usize, text: &mut [u8], at: usize) -> Taken
     requires { ⌜ (i < length (now holdings) / 32) × (at + 31 ≤ length (now text)) ⌝ }
     ensures { λ r. ⌜ r .number ≡ recordNumber (rootsOf (now (roots .entry))) (chunkAt 32 (now (holdings .entry)) i) ⌝ }
-    ensures { λ r. ⌜ (r .number ≡ 0 → r .next ≡ at + length (lineOfRecord (rootsOf (now (roots .entry))) (chunkAt 32 (now (holdings .entry)) i))) ⌝ }
-    ensures { λ r. ⌜ (r .number ≡ 0 → now (text .exit) ≡ putAt (now (text .entry)) at (lineOfRecord (rootsOf (now (roots .entry))) (chunkAt 32 (now (holdings .entry)) i))) ⌝ }
+    ensures { λ r. ⌜ (r .number ≡ 0 → r .next ≡ at + length (lineAt (now (roots .entry)) (now (holdings .entry)) i)) ⌝ }
+    ensures { λ r. ⌜ (r .number ≡ 0 → now (text .exit) ≡ putAt (now (text .entry)) at (lineAt (now (roots .entry)) (now (holdings .entry)) i)) ⌝ }
 {
     let from = RECORD_BYTES * i;
     let to = from + RECORD_BYTES;
@@ -72,8 +71,8 @@ fn take_record(roots: &[u8], holdings: &[u8], i: usize, text: &mut [u8], at: usi
 // Takes the records in their order, their lines from byte 0 of `text` on.
 fn take_records(roots: &[u8], holdings: &[u8], text: &mut [u8]) -> Exported
     requires { ⌜ (length (now holdings) / 32 ≤ 256) × (7936 ≤ length (now text)) ⌝ }
-    ensures { λ r. ⌜ r ≡ exported (firstOf (recordChecks (rootsOf (now (roots .entry))) 0 (recordsOf (now (holdings .entry))))) (length (listOf (now (roots .entry)) (now (holdings .entry)))) ⌝ }
-    ensures { λ r. ⌜ (r ≡ Exported.Bytes (length (listOf (now (roots .entry)) (now (holdings .entry)))) → now (text .exit) ≡ putAt (now (text .entry)) 0 (listOf (now (roots .entry)) (now (holdings .entry)))) ⌝ }
+    ensures { λ r. ⌜ r ≡ recordsAnswer (now (roots .entry)) (now (holdings .entry)) ⌝ }
+    ensures { λ r. ⌜ RecordsTaken (now (roots .entry)) (now (holdings .entry)) r (now (text .entry)) (now (text .exit)) ⌝ }
 {
     let n = holdings.len() / RECORD_BYTES;
     let mut at: usize = 0;
@@ -96,8 +95,8 @@ fn take_records(roots: &[u8], holdings: &[u8], text: &mut [u8]) -> Exported
 // Refusal 17; else copies the lines into the lent list.
 fn put_list(text: &[u8], n: usize, list: &mut [u8]) -> Exported
     requires { ⌜ n ≤ length (now text) ⌝ }
-    ensures { λ r. ⌜ r ≡ exported (firstOf (listRoom n (length (now (list .entry))))) n ⌝ }
-    ensures { λ r. ⌜ now (list .exit) ≡ exportLeaves r (take n (now (text .entry))) (now (list .entry)) ⌝ }
+    ensures { λ r. ⌜ r ≡ exportAnswer (firstOf (listRoom n (length (now (list .entry))))) n ⌝ }
+    ensures { λ r. ⌜ now (list .exit) ≡ leftAfter (hasExported r) (take n (now (text .entry))) (now (list .entry)) ⌝ }
 {
     if list.len() < n {
         return Exported::Refused(Refusal {
@@ -106,15 +105,15 @@ fn put_list(text: &[u8], n: usize, list: &mut [u8]) -> Exported
             place: n,
         });
     }
-    copy_to(list, 0, &text[..n]);
+    records::copy_to(list, 0, &text[..n]);
     Exported::Bytes(n)
 }
 
 // The lines stand in a text of their own until every record is judged.
 fn export_records(roots: &[u8], holdings: &[u8], list: &mut [u8]) -> Exported
     requires { ⌜ length (now holdings) / 32 ≤ 256 ⌝ }
-    ensures { λ r. ⌜ r ≡ exported (firstOf (recordChecks (rootsOf (now (roots .entry))) 0 (recordsOf (now (holdings .entry))) ++ listRoom (length (listOf (now (roots .entry)) (now (holdings .entry)))) (length (now (list .entry))))) (length (listOf (now (roots .entry)) (now (holdings .entry)))) ⌝ }
-    ensures { λ r. ⌜ now (list .exit) ≡ exportLeaves r (listOf (now (roots .entry)) (now (holdings .entry))) (now (list .entry)) ⌝ }
+    ensures { λ r. ⌜ r ≡ listAnswer (now (roots .entry)) (now (holdings .entry)) (now (list .entry)) ⌝ }
+    ensures { λ r. ⌜ now (list .exit) ≡ leftAfter (hasExported r) (listOf (now (roots .entry)) (now (holdings .entry))) (now (list .entry)) ⌝ }
 {
     let mut text = [0u8; LINE_ROOM];
     match take_records(roots, holdings, &mut text) {
@@ -126,8 +125,8 @@ fn export_records(roots: &[u8], holdings: &[u8], list: &mut [u8]) -> Exported
 // Makes holdings into a list of symbols: a line for each record, in their order, from byte 0 of the lent
 // list; what lies past them stays. On a refusal nothing is written.
 pub fn export(roots: &[u8], holdings: &[u8], list: &mut [u8]) -> Exported
-    ensures { λ r. ⌜ r ≡ exportOf (now (roots .entry)) (now (holdings .entry)) (length (now (list .entry))) ⌝ }
-    ensures { λ r. ⌜ now (list .exit) ≡ exportLeaves r (listOf (now (roots .entry)) (now (holdings .entry))) (now (list .entry)) ⌝ }
+    ensures { λ r. ⌜ r ≡ exportCall (now (roots .entry)) (now (holdings .entry)) (length (now (list .entry))) ⌝ }
+    ensures { λ r. ⌜ now (list .exit) ≡ leftAfter (hasExported r) (listOf (now (roots .entry)) (now (holdings .entry))) (now (list .entry)) ⌝ }
 {
     match root_fault(roots) {
         Fault::Is(refusal) => Exported::Refused(refusal),

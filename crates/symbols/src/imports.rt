@@ -1,16 +1,13 @@
 // Import: a list of symbols made into holdings.
 ghost use mathlib.Core.Path.{_≡_};
-ghost use mathlib.Core.List.{_++_};
 ghost use Prim.Native.Nat.{_*_, _≤_, _<_};
 ghost use lib.ListN.{length, take};
-ghost use Rattle.records.specs.Legs.{legBytes};
 ghost use Rattle.records.specs.Order.{firstOf};
-ghost use Rattle.records.specs.Written.{putAt};
-ghost use Rattle.symbols.specs.Lines.{linesOf};
+ghost use Rattle.records.specs.Written.{putAt, leftAfter};
 ghost use Rattle.symbols.specs.Roots.{rootsOf};
-ghost use Rattle.symbols.specs.Calls.{legOfLine, lineChecks, recordsFor, recordRoom, imported, importOf, importLeaves, holdingsOf};
-ghost use Rattle.symbols.specs.Steps.{lineNumber};
-use crate::bytes::copy_to;
+ghost use Rattle.symbols.specs.Calls.{recordRoom, importAnswer, importCall, holdingsOf, hasImported};
+ghost use Rattle.symbols.specs.Steps.Numbers.{lineNumber};
+ghost use Rattle.symbols.specs.Steps.Taken.{lineRecord, linesAnswer, LinesTaken, tableAnswer};
 use crate::lines::LIST_TABLE;
 use crate::lines::line_end;
 use crate::lines::line_in_range;
@@ -42,7 +39,8 @@ const RECORD_ROOM: usize = RECORD_BYTES * MOST_LEGS;
 fn take_line(roots: &[u8], line: &[u8], rows: &mut [u8], i: usize) -> u8
     requires { ⌜ 8192 ≤ length (now rows) ⌝ }
     ensures { λ r. ⌜ r ≡ lineNumber (rootsOf (now (roots .entry))) (now (line .entry)) ⌝ }
-    ensures { λ r. ⌜ (r ≡ 0 → i < 256 → now (rows .exit) ≡ putAt (now (rows .entry)) (32 * i) (legBytes (legOfLine (rootsOf (now (roots .entry))) (now (line .entry))))) ⌝ }
+    ensures { λ r. ⌜ (r ≡ 0 → i < 256 → now (rows .exit) ≡ putAt (now (rows .entry)) (32 * i)
+        (lineRecord (now (roots .entry)) (now (line .entry)))) ⌝ }
 {
     if well_formed(line) {
         let said = line_says(line);
@@ -51,7 +49,7 @@ fn take_line(roots: &[u8], line: &[u8], rows: &mut [u8], i: usize) -> u8
             if place < roots.len() / ROOT_BYTES {
                 if i < MOST_LEGS {
                     let bytes = records::leg_bytes(line_leg(terms_at(roots, place), said));
-                    copy_to(rows, RECORD_BYTES * i, &bytes);
+                    records::copy_to(rows, RECORD_BYTES * i, &bytes);
                 }
                 return 0;
             }
@@ -66,8 +64,8 @@ fn take_line(roots: &[u8], line: &[u8], rows: &mut [u8], i: usize) -> u8
 // judged, also past those.
 fn take_lines(roots: &[u8], list: &[u8], rows: &mut [u8]) -> Imported
     requires { ⌜ 8192 ≤ length (now rows) ⌝ }
-    ensures { λ r. ⌜ r ≡ imported (firstOf (lineChecks (rootsOf (now (roots .entry))) 0 (linesOf (now (list .entry))))) (length (linesOf (now (list .entry)))) ⌝ }
-    ensures { λ r. ⌜ (r ≡ Imported.Records (length (linesOf (now (list .entry)))) → length (linesOf (now (list .entry))) ≤ 256 → now (rows .exit) ≡ putAt (now (rows .entry)) 0 (recordsFor (rootsOf (now (roots .entry))) (linesOf (now (list .entry))))) ⌝ }
+    ensures { λ r. ⌜ r ≡ linesAnswer (now (roots .entry)) (now (list .entry)) ⌝ }
+    ensures { λ r. ⌜ LinesTaken (now (roots .entry)) (now (list .entry)) r (now (rows .entry)) (now (rows .exit)) ⌝ }
 {
     let mut at: usize = 0;
     let mut i: usize = 0;
@@ -90,8 +88,8 @@ fn take_lines(roots: &[u8], list: &[u8], rows: &mut [u8]) -> Imported
 // Refusal 1 for too many lines, then 17; else copies the records into the lent table.
 fn put_rows(rows: &[u8], n: usize, holdings: &mut [u8]) -> Imported
     requires { ⌜ 8192 ≤ length (now rows) ⌝ }
-    ensures { λ r. ⌜ r ≡ imported (firstOf (recordRoom n (length (now (holdings .entry))))) n ⌝ }
-    ensures { λ r. ⌜ now (holdings .exit) ≡ importLeaves r (take (32 * n) (now (rows .entry))) (now (holdings .entry)) ⌝ }
+    ensures { λ r. ⌜ r ≡ importAnswer (firstOf (recordRoom n (length (now (holdings .entry))))) n ⌝ }
+    ensures { λ r. ⌜ now (holdings .exit) ≡ leftAfter (hasImported r) (take (32 * n) (now (rows .entry))) (now (holdings .entry)) ⌝ }
 {
     if MOST_LEGS < n {
         return Imported::Refused(Refusal {
@@ -108,14 +106,14 @@ fn put_rows(rows: &[u8], n: usize, holdings: &mut [u8]) -> Imported
             place: end,
         });
     }
-    copy_to(holdings, 0, &rows[..end]);
+    records::copy_to(holdings, 0, &rows[..end]);
     Imported::Records(n)
 }
 
 // The records stand in rows of their own until every line is judged.
 fn import_lines(roots: &[u8], list: &[u8], holdings: &mut [u8]) -> Imported
-    ensures { λ r. ⌜ r ≡ imported (firstOf (lineChecks (rootsOf (now (roots .entry))) 0 (linesOf (now (list .entry))) ++ recordRoom (length (linesOf (now (list .entry)))) (length (now (holdings .entry))))) (length (linesOf (now (list .entry)))) ⌝ }
-    ensures { λ r. ⌜ now (holdings .exit) ≡ importLeaves r (holdingsOf (now (roots .entry)) (now (list .entry))) (now (holdings .entry)) ⌝ }
+    ensures { λ r. ⌜ r ≡ tableAnswer (now (roots .entry)) (now (list .entry)) (now (holdings .entry)) ⌝ }
+    ensures { λ r. ⌜ now (holdings .exit) ≡ leftAfter (hasImported r) (holdingsOf (now (roots .entry)) (now (list .entry))) (now (holdings .entry)) ⌝ }
 {
     let mut rows = [0u8; RECORD_ROOM];
     match take_lines(roots, list, &mut rows) {
@@ -127,8 +125,8 @@ fn import_lines(roots: &[u8], list: &[u8], holdings: &mut [u8]) -> Imported
 // Makes a list of symbols into holdings: a record for each line, in their order, from byte 0 of the lent
 // table; what lies past them stays. On a refusal nothing is written.
 pub fn import(roots: &[u8], list: &[u8], holdings: &mut [u8]) -> Imported
-    ensures { λ r. ⌜ r ≡ importOf (now (roots .entry)) (now (list .entry)) (length (now (holdings .entry))) ⌝ }
-    ensures { λ r. ⌜ now (holdings .exit) ≡ importLeaves r (holdingsOf (now (roots .entry)) (now (list .entry))) (now (holdings .entry)) ⌝ }
+    ensures { λ r. ⌜ r ≡ importCall (now (roots .entry)) (now (list .entry)) (length (now (holdings .entry))) ⌝ }
+    ensures { λ r. ⌜ now (holdings .exit) ≡ leftAfter (hasImported r) (holdingsOf (now (roots .entry)) (now (list .entry))) (now (holdings .entry)) ⌝ }
 {
     match root_fault(roots) {
         Fault::Is(refusal) => Imported::Refused(refusal),

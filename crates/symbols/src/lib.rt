@@ -1,6 +1,5 @@
 // Lists of option symbols: holdings made of a member's list, and a list made of holdings. Document 02, [9].
 // No public function has a `requires`.
-mod bytes;
 mod digits;
 mod exports;
 mod imports;

@@ -4,8 +4,7 @@ ghost use Prim.Native.Nat.{_+_, _≤_};
 ghost use lib.ListN.{length, drop};
 ghost use Rattle.records.specs.Written.{putAt};
 ghost use Rattle.symbols.specs.Lines.{isRight, isSide, rightSaid, sideSaid, rightChar, sideChar, wellFormed, lineSays, lineInRange, lineLeg, symbolText, lineText};
-ghost use Rattle.symbols.specs.Steps.{lineLength};
-use crate::bytes::copy_to;
+ghost use Rattle.symbols.specs.Steps.Numbers.{lineLength};
 use crate::digits::all_digits;
 use crate::digits::number_of;
 use crate::digits::places_of;
@@ -172,7 +171,7 @@ fn put_symbol(name: &[u8], leg: Leg, out: &mut [u8], at: usize)
     requires { ⌜ (length (now name) ≡ 6) × (at + 21 ≤ length (now out)) ⌝ }
     ensures { λ _. ⌜ now (out .exit) ≡ putAt (now (out .entry)) at (symbolText (now (name .entry)) leg) ⌝ }
 {
-    copy_to(out, at, name);
+    records::copy_to(out, at, name);
     put_digits(leg.expiry % 1000000, 6, out, at + 6);
     out[at + 12] = right_char(leg.right);
     put_digits(leg.strike, 8, out, at + 13);
@@ -186,7 +185,7 @@ pub(crate) fn put_line(name: &[u8], leg: Leg, out: &mut [u8], at: usize) -> usiz
 {
     put_symbol(name, leg, out, at);
     let marks = [b' ', side_char(leg.side), b' '];
-    copy_to(out, at + 21, &marks);
+    records::copy_to(out, at + 21, &marks);
     let contracts = leg.contracts.number();
     let places = places_of(contracts);
     put_digits(contracts, places, out, at + 24);

@@ -16,8 +16,8 @@ use Rattle.records.specs.declared.refusals.Fault.{Fault}
 use Rattle.records.specs.declared.refusals.Fault.the-variants.{Nothing, Is}
 use Rattle.records.specs.declared.tables.Kind.the-variants.{Placement}
 use Rattle.blocks.specs.Reader.{readChecks}
-use Rattle.binaries.specs.Calls.{required, singleChecks, singleCall, pairChecks, pairCall}
-use Rattle.binaries.specs.Margins.{marginOf, pairMargin}
+use Rattle.binaries.specs.Calls.{binaryAnswer, singleChecks, singleCall, pairChecks, pairCall}
+use Rattle.binaries.specs.Margins.{binaryMargin, pairMargin}
 use Rattle.binaries.specs.declared.percentages.Side.{Side}
 use Rattle.binaries.specs.declared.percentages.Side.the-variants.{Long, Short}
 use Rattle.binaries.specs.declared.positions.Position.{Position}
@@ -68,7 +68,7 @@ file-mills file = after-mills (firstOf (readChecks file)) _ (sheet-mills _ _ _)
 
 -- ---- positions in credit event binary options
 
-required-mills : (fault : Fault) (mills : ℕ) → RequiredMills (required fault mills)
+required-mills : (fault : Fault) (mills : ℕ) → RequiredMills (binaryAnswer fault mills)
 required-mills Nothing mills = refl
 required-mills (Is r) mills = tt
 
@@ -76,12 +76,12 @@ pub single-mills : (side spread valuation expiry contracts : ℕ) → RequiredMi
 unfolding singleAs singleCall
 single-mills side spread valuation expiry contracts = go (eqb side 1) (eqb side 2)
   where
-    answered : (s : Side) → RequiredMills (required (firstOf (singleChecks spread valuation expiry contracts)) (marginOf s spread valuation expiry contracts))
-    answered s = required-mills (firstOf (singleChecks spread valuation expiry contracts)) (marginOf s spread valuation expiry contracts)
+    answered : (s : Side) → RequiredMills (binaryAnswer (firstOf (singleChecks spread valuation expiry contracts)) (binaryMargin s spread valuation expiry contracts))
+    answered s = required-mills (firstOf (singleChecks spread valuation expiry contracts)) (binaryMargin s spread valuation expiry contracts)
 
     go : (a b : Bool)
-        → RequiredMills (cond a (required (firstOf (singleChecks spread valuation expiry contracts)) (marginOf Long spread valuation expiry contracts))
-        (cond b (required (firstOf (singleChecks spread valuation expiry contracts)) (marginOf Short spread valuation expiry contracts))
+        → RequiredMills (cond a (binaryAnswer (firstOf (singleChecks spread valuation expiry contracts)) (binaryMargin Long spread valuation expiry contracts))
+        (cond b (binaryAnswer (firstOf (singleChecks spread valuation expiry contracts)) (binaryMargin Short spread valuation expiry contracts))
         (Refused-required (refuse 4 0 0))))
     go true b = answered Long
     go false true = answered Short
@@ -91,12 +91,12 @@ pub pair-mills : (valuation : ℕ) (long : Position) (paid : ℕ) (short : Posit
 unfolding pairAs pairCall
 pair-mills valuation long paid short = go (eqb paid 0) (eqb paid 1)
   where
-    answered : (m : Bool) → RequiredMills (required (firstOf (pairChecks valuation long short)) (pairMargin valuation (longAs long m) short))
+    answered : (m : Bool) → RequiredMills (binaryAnswer (firstOf (pairChecks valuation long short)) (pairMargin valuation (longAs long m) short))
     answered m = required-mills (firstOf (pairChecks valuation long short)) (pairMargin valuation (longAs long m) short)
 
     go : (a b : Bool)
-        → RequiredMills (cond a (required (firstOf (pairChecks valuation long short)) (pairMargin valuation (longAs long false) short))
-        (cond b (required (firstOf (pairChecks valuation long short)) (pairMargin valuation (longAs long true) short))
+        → RequiredMills (cond a (binaryAnswer (firstOf (pairChecks valuation long short)) (pairMargin valuation (longAs long false) short))
+        (cond b (binaryAnswer (firstOf (pairChecks valuation long short)) (pairMargin valuation (longAs long true) short))
         (Refused-required (refuse 4 0 0))))
     go true b = answered false
     go false true = answered true

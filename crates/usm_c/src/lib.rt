@@ -1,21 +1,23 @@
 // The calls of the library for C and Rust. Slices pass as a pointer and a length. The answer of every
-// call but the last two is four words: 0 and the results, or a refusal's number, table and place, and 0.
-// No public function has a `requires`.
+// call but the last two is four words: 0 and the results, or a refusal's number, table and place, and 0;
+// the first of them is returned, too. No public function has a `requires`.
 ghost use mathlib.Core.Path.{_≡_};
 ghost use lib.ListN.{length};
 ghost use Rattle.records.specs.Written.{putAt};
 ghost use Rattle.records.specs.declared.tables.Kind.the-variants.{Holdings, Placement, Claims};
 ghost use Rattle.blocks.specs.Forms.{inOld, inNew};
-ghost use Rattle.blocks.specs.File.{tables};
-ghost use Rattle.blocks.specs.Moves.{moveOf};
 ghost use Rattle.blocks.specs.declared.forms.Form.the-variants.{Old, New};
 ghost use Rattle.spreads.specs.Calls.{marginCall};
 ghost use Rattle.spreads.specs.Cash.{cashCall};
 ghost use Rattle.sheets.specs.Verdicts.{verdictOf};
 ghost use Rattle.verdicts.specs.FileVerdicts.{fileVerdict};
 ghost use Rattle.verdicts.specs.TableText.{tableText};
-ghost use Rattle.usm_c.specs.Answers.{dueWords, verdictWords, writingWords, tableWords, requiredWords};
-ghost use Rattle.usm_c.specs.Outcomes.{marginsWords, marginsLeft, worksheetWords, strikesLeft, netsLeft, readWords, tableLeft, originLeft, writeAs, outLeft, movedLeft, playWords, resultLeft, indicesLeft, numbersLeft, fileLine, markWords, placementLeft, importWords, importLeft, exportWords, exportLeft, salvageWords, soundLeft, droppedLeft, reasonsLeft, position, singleAs, pairAs};
+ghost use Rattle.usm_c.specs.Answers.{firstWord, dueWords, verdictWords, tableWords, requiredWords};
+ghost use Rattle.usm_c.specs.Outcomes.{marginsWords, marginsLeft, worksheetWords, strikesLeft, netsLeft};
+ghost use Rattle.usm_c.specs.Outcomes.{readWords, tableLeft, originLeft, writeWords, outLeft, moveWords, movedLeft};
+ghost use Rattle.usm_c.specs.Outcomes.{markWords, placementLeft, playWords, resultLeft, indicesLeft, numbersLeft};
+ghost use Rattle.usm_c.specs.Outcomes.{importWords, importLeft, exportWords, exportLeft, salvageWords, soundLeft, droppedLeft, reasonsLeft};
+ghost use Rattle.usm_c.specs.Outcomes.{position, singleAs, pairAs, fileLine};
 
 mod origins;
 mod positions;
@@ -38,40 +40,53 @@ use words::reading_words;
 use words::required_words;
 use words::salvaged_words;
 use words::table_words;
+use words::tell;
 use words::verdict_words;
 use words::writing_words;
 
 // Refusals 1 and 4 of one table, by its number; or how many records it has.
 #[no_mangle]
-pub extern "C" fn usm_check_table(kind: u64, table: &[u8], answer: &mut [u64; 4])
+pub extern "C" fn usm_check_table(kind: u64, table: &[u8], answer: &mut [u64; 4]) -> u64
+    ensures { λ r. ⌜ r ≡ firstWord (now (answer .exit)) ⌝ }
     ensures { λ _. ⌜ now (answer .exit) ≡ tableWords kind (now (table .entry)) ⌝ }
 {
-    *answer = table_words(kind, table);
+    tell(table_words(kind, table), answer)
 }
 
 // The margin of group g of a placement.
 #[no_mangle]
-pub extern "C" fn usm_margin(placement: &[u8], g: u64, answer: &mut [u64; 4])
+pub extern "C" fn usm_margin(placement: &[u8], g: u64, answer: &mut [u64; 4]) -> u64
+    ensures { λ r. ⌜ r ≡ firstWord (now (answer .exit)) ⌝ }
     ensures { λ _. ⌜ now (answer .exit) ≡ dueWords (marginCall (now (placement .entry)) g) ⌝ }
 {
-    *answer = due_words(spreads::margin(placement, g as usize));
+    tell(due_words(spreads::margin(placement, g as usize)), answer)
 }
 
 // The cash required for group g of a placement in a cash account.
 #[no_mangle]
-pub extern "C" fn usm_cash(placement: &[u8], g: u64, answer: &mut [u64; 4])
+pub extern "C" fn usm_cash(placement: &[u8], g: u64, answer: &mut [u64; 4]) -> u64
+    ensures { λ r. ⌜ r ≡ firstWord (now (answer .exit)) ⌝ }
     ensures { λ _. ⌜ now (answer .exit) ≡ dueWords (cashCall (now (placement .entry)) g) ⌝ }
 {
-    *answer = due_words(spreads::cash(placement, g as usize));
+    tell(due_words(spreads::cash(placement, g as usize)), answer)
 }
 
 // The margins of groups 1 to n.
 #[no_mangle]
-pub extern "C" fn usm_margins(placement: &[u8], n: u64, out: &mut [i64], answer: &mut [u64; 4])
-    ensures { λ _. ⌜ now (answer .exit) ≡ marginsWords (now (placement .entry)) n (now (out .entry)) ⌝ }
-    ensures { λ _. ⌜ now (out .exit) ≡ marginsLeft (now (placement .entry)) n (now (out .entry)) ⌝ }
+pub extern "C" fn usm_margins(
+    placement: &[u8],
+    n: u64,
+    out: &mut [i64],
+    answer: &mut [u64; 4],
+) -> u64
+    ensures { λ r. ⌜ r ≡ firstWord (now (answer .exit)) ⌝ }
+    ensures { λ _. ⌜ now (answer .exit) ≡ marginsWords (placement .entry) n (out .entry) ⌝ }
+    ensures { λ _. ⌜ now (out .exit) ≡ marginsLeft (placement .entry) n (out .entry) ⌝ }
 {
-    *answer = listed_words(spreads::margins(placement, n as usize, out));
+    tell(
+        listed_words(spreads::margins(placement, n as usize, out)),
+        answer,
+    )
 }
 
 // The distinct strikes of group g, and the net at each.
@@ -82,12 +97,16 @@ pub extern "C" fn usm_worksheet(
     strikes: &mut [u32],
     nets: &mut [i64],
     answer: &mut [u64; 4],
-)
-    ensures { λ _. ⌜ now (answer .exit) ≡ worksheetWords (now (placement .entry)) g (now (strikes .entry)) (now (nets .entry)) ⌝ }
-    ensures { λ _. ⌜ now (strikes .exit) ≡ strikesLeft (now (placement .entry)) g (now (strikes .entry)) (now (nets .entry)) ⌝ }
-    ensures { λ _. ⌜ now (nets .exit) ≡ netsLeft (now (placement .entry)) g (now (strikes .entry)) (now (nets .entry)) ⌝ }
+) -> u64
+    ensures { λ r. ⌜ r ≡ firstWord (now (answer .exit)) ⌝ }
+    ensures { λ _. ⌜ now (answer .exit) ≡ worksheetWords (placement .entry) g (strikes .entry) (nets .entry) ⌝ }
+    ensures { λ _. ⌜ now (strikes .exit) ≡ strikesLeft (placement .entry) g (strikes .entry) (nets .entry) ⌝ }
+    ensures { λ _. ⌜ now (nets .exit) ≡ netsLeft (placement .entry) g (strikes .entry) (nets .entry) ⌝ }
 {
-    *answer = listed_words(spreads::worksheet(placement, g as usize, strikes, nets));
+    tell(
+        listed_words(spreads::worksheet(placement, g as usize, strikes, nets)),
+        answer,
+    )
 }
 
 // The verdict on the three tables of a sheet.
@@ -97,27 +116,33 @@ pub extern "C" fn usm_check_sheet(
     placement: &[u8],
     claims: &[u8],
     answer: &mut [u64; 4],
-)
+) -> u64
+    ensures { λ r. ⌜ r ≡ firstWord (now (answer .exit)) ⌝ }
     ensures { λ _. ⌜ now (answer .exit) ≡ verdictWords (verdictOf (now (holdings .entry)) (now (placement .entry)) (now (claims .entry))) ⌝ }
 {
-    *answer = verdict_words(sheets::check_sheet(holdings, placement, claims));
+    tell(
+        verdict_words(sheets::check_sheet(holdings, placement, claims)),
+        answer,
+    )
 }
 
 // Sets the paid mark on every unplaced long of a placement, in place: what an old sheet goes through.
 #[no_mangle]
-pub extern "C" fn usm_mark_paid(placement: &mut [u8], answer: &mut [u64; 4])
-    ensures { λ _. ⌜ now (answer .exit) ≡ markWords (now (placement .entry)) ⌝ }
-    ensures { λ _. ⌜ now (placement .exit) ≡ placementLeft (now (placement .entry)) ⌝ }
+pub extern "C" fn usm_mark_paid(placement: &mut [u8], answer: &mut [u64; 4]) -> u64
+    ensures { λ r. ⌜ r ≡ firstWord (now (answer .exit)) ⌝ }
+    ensures { λ _. ⌜ now (answer .exit) ≡ markWords (placement .entry) ⌝ }
+    ensures { λ _. ⌜ now (placement .exit) ≡ placementLeft (placement .entry) ⌝ }
 {
-    *answer = marked_words(sheets::mark_paid(placement));
+    tell(marked_words(sheets::mark_paid(placement)), answer)
 }
 
 // The verdict on a sheet file.
 #[no_mangle]
-pub extern "C" fn usm_check_file(file: &[u8], answer: &mut [u64; 4])
+pub extern "C" fn usm_check_file(file: &[u8], answer: &mut [u64; 4]) -> u64
+    ensures { λ r. ⌜ r ≡ firstWord (now (answer .exit)) ⌝ }
     ensures { λ _. ⌜ now (answer .exit) ≡ verdictWords (fileVerdict (now (file .entry))) ⌝ }
 {
-    *answer = verdict_words(verdicts::check_file(file));
+    tell(verdict_words(verdicts::check_file(file)), answer)
 }
 
 // The records of a sheet file, into three lent tables, and its form and account.
@@ -129,16 +154,17 @@ pub extern "C" fn usm_read_file(
     claims: &mut [u8],
     origin: &mut [u64; 2],
     answer: &mut [u64; 4],
-)
-    ensures { λ _. ⌜ now (answer .exit) ≡ readWords (now (file .entry)) (tables (now (holdings .entry)) (now (placement .entry)) (now (claims .entry))) ⌝ }
-    ensures { λ _. ⌜ now (holdings .exit) ≡ tableLeft Holdings (now (file .entry)) (tables (now (holdings .entry)) (now (placement .entry)) (now (claims .entry))) ⌝ }
-    ensures { λ _. ⌜ now (placement .exit) ≡ tableLeft Placement (now (file .entry)) (tables (now (holdings .entry)) (now (placement .entry)) (now (claims .entry))) ⌝ }
-    ensures { λ _. ⌜ now (claims .exit) ≡ tableLeft Claims (now (file .entry)) (tables (now (holdings .entry)) (now (placement .entry)) (now (claims .entry))) ⌝ }
-    ensures { λ _. ⌜ now (origin .exit) ≡ originLeft (now (file .entry)) (tables (now (holdings .entry)) (now (placement .entry)) (now (claims .entry))) (now (origin .entry)) ⌝ }
+) -> u64
+    ensures { λ r. ⌜ r ≡ firstWord (now (answer .exit)) ⌝ }
+    ensures { λ _. ⌜ now (answer .exit) ≡ readWords (file .entry) (holdings .entry) (placement .entry) (claims .entry) ⌝ }
+    ensures { λ _. ⌜ now (holdings .exit) ≡ tableLeft Holdings (file .entry) (holdings .entry) (placement .entry) (claims .entry) ⌝ }
+    ensures { λ _. ⌜ now (placement .exit) ≡ tableLeft Placement (file .entry) (holdings .entry) (placement .entry) (claims .entry) ⌝ }
+    ensures { λ _. ⌜ now (claims .exit) ≡ tableLeft Claims (file .entry) (holdings .entry) (placement .entry) (claims .entry) ⌝ }
+    ensures { λ _. ⌜ now (origin .exit) ≡ originLeft (file .entry) (holdings .entry) (placement .entry) (claims .entry) (origin .entry) ⌝ }
 {
     let reading = blocks::read_file(file, holdings, placement, claims);
     put_origin(reading, origin);
-    *answer = reading_words(reading);
+    tell(reading_words(reading), answer)
 }
 
 // The file of three tables, in a form and of an account, into a lent buffer.
@@ -151,29 +177,40 @@ pub extern "C" fn usm_write_file(
     account: u64,
     out: &mut [u8],
     answer: &mut [u64; 4],
-)
-    ensures { λ _. ⌜ now (answer .exit) ≡ writingWords (writeAs form account (tables (now (holdings .entry)) (now (placement .entry)) (now (claims .entry))) (length (now (out .entry)))) ⌝ }
-    ensures { λ _. ⌜ now (out .exit) ≡ outLeft form account (tables (now (holdings .entry)) (now (placement .entry)) (now (claims .entry))) (now (out .entry)) ⌝ }
+) -> u64
+    ensures { λ r. ⌜ r ≡ firstWord (now (answer .exit)) ⌝ }
+    ensures { λ _. ⌜ now (answer .exit) ≡ writeWords form account (holdings .entry) (placement .entry) (claims .entry) (out .entry) ⌝ }
+    ensures { λ _. ⌜ now (out .exit) ≡ outLeft form account (holdings .entry) (placement .entry) (claims .entry) (out .entry) ⌝ }
 {
-    *answer = writing_words(write_as(holdings, placement, claims, form, account, out));
+    tell(
+        writing_words(write_as(holdings, placement, claims, form, account, out)),
+        answer,
+    )
 }
 
 // A file of the old form, in the new one with this account's number, into a lent buffer.
 #[no_mangle]
-pub extern "C" fn usm_move_to_new(file: &[u8], account: u64, out: &mut [u8], answer: &mut [u64; 4])
-    ensures { λ _. ⌜ now (answer .exit) ≡ writingWords (moveOf Old (inNew account) (now (file .entry)) (length (now (out .entry)))) ⌝ }
-    ensures { λ _. ⌜ now (out .exit) ≡ movedLeft Old (inNew account) (now (file .entry)) (now (out .entry)) ⌝ }
+pub extern "C" fn usm_move_to_new(
+    file: &[u8],
+    account: u64,
+    out: &mut [u8],
+    answer: &mut [u64; 4],
+) -> u64
+    ensures { λ r. ⌜ r ≡ firstWord (now (answer .exit)) ⌝ }
+    ensures { λ _. ⌜ now (answer .exit) ≡ moveWords Old (inNew account) (file .entry) (out .entry) ⌝ }
+    ensures { λ _. ⌜ now (out .exit) ≡ movedLeft Old (inNew account) (file .entry) (out .entry) ⌝ }
 {
-    *answer = writing_words(blocks::to_new(file, account, out));
+    tell(writing_words(blocks::to_new(file, account, out)), answer)
 }
 
 // A file of the new form, in the old one, into a lent buffer.
 #[no_mangle]
-pub extern "C" fn usm_move_to_old(file: &[u8], out: &mut [u8], answer: &mut [u64; 4])
-    ensures { λ _. ⌜ now (answer .exit) ≡ writingWords (moveOf New inOld (now (file .entry)) (length (now (out .entry)))) ⌝ }
-    ensures { λ _. ⌜ now (out .exit) ≡ movedLeft New inOld (now (file .entry)) (now (out .entry)) ⌝ }
+pub extern "C" fn usm_move_to_old(file: &[u8], out: &mut [u8], answer: &mut [u64; 4]) -> u64
+    ensures { λ r. ⌜ r ≡ firstWord (now (answer .exit)) ⌝ }
+    ensures { λ _. ⌜ now (answer .exit) ≡ moveWords New inOld (file .entry) (out .entry) ⌝ }
+    ensures { λ _. ⌜ now (out .exit) ≡ movedLeft New inOld (file .entry) (out .entry) ⌝ }
 {
-    *answer = writing_words(blocks::to_old(file, out));
+    tell(writing_words(blocks::to_old(file, out)), answer)
 }
 
 // The day's fills played over holdings: the table that then stands, and which fills were refused.
@@ -185,31 +222,53 @@ pub extern "C" fn usm_play_fills(
     indices: &mut [u32],
     numbers: &mut [u8],
     answer: &mut [u64; 4],
-)
-    ensures { λ _. ⌜ now (answer .exit) ≡ playWords (now (holdings .entry)) (now (fills .entry)) (now (result .entry)) (now (indices .entry)) (now (numbers .entry)) ⌝ }
-    ensures { λ _. ⌜ now (result .exit) ≡ resultLeft (now (holdings .entry)) (now (fills .entry)) (now (result .entry)) (now (indices .entry)) (now (numbers .entry)) ⌝ }
-    ensures { λ _. ⌜ now (indices .exit) ≡ indicesLeft (now (holdings .entry)) (now (fills .entry)) (now (result .entry)) (now (indices .entry)) (now (numbers .entry)) ⌝ }
-    ensures { λ _. ⌜ now (numbers .exit) ≡ numbersLeft (now (holdings .entry)) (now (fills .entry)) (now (result .entry)) (now (indices .entry)) (now (numbers .entry)) ⌝ }
+) -> u64
+    ensures { λ r. ⌜ r ≡ firstWord (now (answer .exit)) ⌝ }
+    ensures { λ _. ⌜ now (answer .exit) ≡ playWords (holdings .entry) (fills .entry) (result .entry) (indices .entry) (numbers .entry) ⌝ }
+    ensures { λ _. ⌜ now (result .exit) ≡ resultLeft (holdings .entry) (fills .entry) (result .entry) (indices .entry) (numbers .entry) ⌝ }
+    ensures { λ _. ⌜ now (indices .exit) ≡ indicesLeft (holdings .entry) (fills .entry) (result .entry) (indices .entry) (numbers .entry) ⌝ }
+    ensures { λ _. ⌜ now (numbers .exit) ≡ numbersLeft (holdings .entry) (fills .entry) (result .entry) (indices .entry) (numbers .entry) ⌝ }
 {
-    *answer = played_words(fills::play(holdings, fills, result, indices, numbers));
+    tell(
+        played_words(fills::play(holdings, fills, result, indices, numbers)),
+        answer,
+    )
 }
 
 // A member's list of option symbols, by a table of roots, into a lent table of holdings.
 #[no_mangle]
-pub extern "C" fn usm_import(roots: &[u8], list: &[u8], holdings: &mut [u8], answer: &mut [u64; 4])
-    ensures { λ _. ⌜ now (answer .exit) ≡ importWords (now (roots .entry)) (now (list .entry)) (now (holdings .entry)) ⌝ }
-    ensures { λ _. ⌜ now (holdings .exit) ≡ importLeft (now (roots .entry)) (now (list .entry)) (now (holdings .entry)) ⌝ }
+pub extern "C" fn usm_import(
+    roots: &[u8],
+    list: &[u8],
+    holdings: &mut [u8],
+    answer: &mut [u64; 4],
+) -> u64
+    ensures { λ r. ⌜ r ≡ firstWord (now (answer .exit)) ⌝ }
+    ensures { λ _. ⌜ now (answer .exit) ≡ importWords (roots .entry) (list .entry) (holdings .entry) ⌝ }
+    ensures { λ _. ⌜ now (holdings .exit) ≡ importLeft (roots .entry) (list .entry) (holdings .entry) ⌝ }
 {
-    *answer = imported_words(symbols::import(roots, list, holdings));
+    tell(
+        imported_words(symbols::import(roots, list, holdings)),
+        answer,
+    )
 }
 
 // Holdings, by a table of roots, as a list of option symbols in a lent buffer.
 #[no_mangle]
-pub extern "C" fn usm_export(roots: &[u8], holdings: &[u8], list: &mut [u8], answer: &mut [u64; 4])
-    ensures { λ _. ⌜ now (answer .exit) ≡ exportWords (now (roots .entry)) (now (holdings .entry)) (now (list .entry)) ⌝ }
-    ensures { λ _. ⌜ now (list .exit) ≡ exportLeft (now (roots .entry)) (now (holdings .entry)) (now (list .entry)) ⌝ }
+pub extern "C" fn usm_export(
+    roots: &[u8],
+    holdings: &[u8],
+    list: &mut [u8],
+    answer: &mut [u64; 4],
+) -> u64
+    ensures { λ r. ⌜ r ≡ firstWord (now (answer .exit)) ⌝ }
+    ensures { λ _. ⌜ now (answer .exit) ≡ exportWords (roots .entry) (holdings .entry) (list .entry) ⌝ }
+    ensures { λ _. ⌜ now (list .exit) ≡ exportLeft (roots .entry) (holdings .entry) (list .entry) ⌝ }
 {
-    *answer = exported_words(symbols::export(roots, holdings, list));
+    tell(
+        exported_words(symbols::export(roots, holdings, list)),
+        answer,
+    )
 }
 
 // A damaged file salvaged: the sound file, and which blocks were dropped.
@@ -220,13 +279,17 @@ pub extern "C" fn usm_salvage(
     indices: &mut [u32],
     numbers: &mut [u8],
     answer: &mut [u64; 4],
-)
-    ensures { λ _. ⌜ now (answer .exit) ≡ salvageWords (now (bytes .entry)) (now (out .entry)) (now (indices .entry)) (now (numbers .entry)) ⌝ }
-    ensures { λ _. ⌜ now (out .exit) ≡ soundLeft (now (bytes .entry)) (now (out .entry)) (now (indices .entry)) (now (numbers .entry)) ⌝ }
-    ensures { λ _. ⌜ now (indices .exit) ≡ droppedLeft (now (bytes .entry)) (now (out .entry)) (now (indices .entry)) (now (numbers .entry)) ⌝ }
-    ensures { λ _. ⌜ now (numbers .exit) ≡ reasonsLeft (now (bytes .entry)) (now (out .entry)) (now (indices .entry)) (now (numbers .entry)) ⌝ }
+) -> u64
+    ensures { λ r. ⌜ r ≡ firstWord (now (answer .exit)) ⌝ }
+    ensures { λ _. ⌜ now (answer .exit) ≡ salvageWords (bytes .entry) (out .entry) (indices .entry) (numbers .entry) ⌝ }
+    ensures { λ _. ⌜ now (out .exit) ≡ soundLeft (bytes .entry) (out .entry) (indices .entry) (numbers .entry) ⌝ }
+    ensures { λ _. ⌜ now (indices .exit) ≡ droppedLeft (bytes .entry) (out .entry) (indices .entry) (numbers .entry) ⌝ }
+    ensures { λ _. ⌜ now (numbers .exit) ≡ reasonsLeft (bytes .entry) (out .entry) (indices .entry) (numbers .entry) ⌝ }
 {
-    *answer = salvaged_words(salvage::salvage(bytes, out, indices, numbers));
+    tell(
+        salvaged_words(salvage::salvage(bytes, out, indices, numbers)),
+        answer,
+    )
 }
 
 // The margin of a position in a credit event binary option, side 1 long or 2 short.
@@ -238,10 +301,14 @@ pub extern "C" fn usm_binary_margin(
     expiry: u64,
     contracts: u64,
     answer: &mut [u64; 4],
-)
+) -> u64
+    ensures { λ r. ⌜ r ≡ firstWord (now (answer .exit)) ⌝ }
     ensures { λ _. ⌜ now (answer .exit) ≡ requiredWords (singleAs side spread valuation expiry contracts) ⌝ }
 {
-    *answer = required_words(single_as(side, spread, valuation, expiry, contracts));
+    tell(
+        required_words(single_as(side, spread, valuation, expiry, contracts)),
+        answer,
+    )
 }
 
 // The margin of a long and a short position in them together, the long paid in full, 1, or not, 0.
@@ -258,8 +325,11 @@ pub extern "C" fn usm_binary_pair(
     short_expiry: u64,
     short_contracts: u64,
     answer: &mut [u64; 4],
-)
-    ensures { λ _. ⌜ now (answer .exit) ≡ requiredWords (pairAs valuation (position «long_reference» «long_spread» «long_expiry» «long_contracts») «long_paid» (position «short_reference» «short_spread» «short_expiry» «short_contracts»)) ⌝ }
+) -> u64
+    ensures { λ r. ⌜ r ≡ firstWord (now (answer .exit)) ⌝ }
+    ensures { λ _. ⌜ now (answer .exit) ≡ requiredWords (pairAs valuation
+        (position «long_reference» «long_spread» «long_expiry» «long_contracts») «long_paid»
+        (position «short_reference» «short_spread» «short_expiry» «short_contracts»)) ⌝ }
 {
     let long = Position {
         reference: long_reference,
@@ -273,7 +343,10 @@ pub extern "C" fn usm_binary_pair(
         expiry: short_expiry,
         contracts: short_contracts,
     };
-    *answer = required_words(pair_as(valuation, long, long_paid, short));
+    tell(
+        required_words(pair_as(valuation, long, long_paid, short)),
+        answer,
+    )
 }
 
 // The line that is printed for a sheet file; the answer is its length.

@@ -1,10 +1,8 @@
 // Form and account as words: form 1 or 2, and the account's number.
 ghost use mathlib.Core.Path.{_≡_};
 ghost use lib.ListN.{length};
-ghost use Rattle.blocks.specs.File.{tables};
-ghost use Rattle.blocks.specs.Writer.{filled};
 ghost use Rattle.usm_c.specs.Answers.{originWords};
-ghost use Rattle.usm_c.specs.Outcomes.{originAs, writeAs};
+ghost use Rattle.usm_c.specs.Outcomes.{lentTables, writeAs, writtenAs};
 use blocks::Form;
 use blocks::Origin;
 use blocks::Reading;
@@ -33,8 +31,8 @@ pub(crate) fn write_as(
     account: u64,
     out: &mut [u8],
 ) -> Writing
-    ensures { λ r. ⌜ r ≡ writeAs form account (tables (now (holdings .entry)) (now (placement .entry)) (now (claims .entry))) (length (now (out .entry))) ⌝ }
-    ensures { λ r. ⌜ now (out .exit) ≡ filled r (originAs form account) (tables (now (holdings .entry)) (now (placement .entry)) (now (claims .entry))) (now (out .entry)) ⌝ }
+    ensures { λ r. ⌜ r ≡ writeAs form account (lentTables (holdings .entry) (placement .entry) (claims .entry)) (length (now (out .entry))) ⌝ }
+    ensures { λ r. ⌜ now (out .exit) ≡ writtenAs r form account (lentTables (holdings .entry) (placement .entry) (claims .entry)) (now (out .entry)) ⌝ }
 {
     match form {
         1 => {

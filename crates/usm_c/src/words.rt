@@ -1,6 +1,8 @@
-// The four words of each kind of answer.
+// The four words of each kind of answer, and how they are told.
 ghost use mathlib.Core.Path.{_≡_};
-ghost use Rattle.usm_c.specs.Answers.{doneWords, refusedWords, countedWords, dueWords, listedWords, verdictWords, readingWords, writingWords, markedWords, playedWords, importedWords, exportedWords, tableWords, DueMills, VerdictMills, salvagedWords, requiredWords, RequiredMills};
+ghost use Rattle.usm_c.specs.Answers.{firstWord, doneWords, refusedWords, countedWords, dueWords, listedWords, verdictWords};
+ghost use Rattle.usm_c.specs.Answers.{readingWords, writingWords, markedWords, playedWords, importedWords, exportedWords};
+ghost use Rattle.usm_c.specs.Answers.{salvagedWords, requiredWords, tableWords, DueMills, VerdictMills, RequiredMills};
 use binaries::Required;
 use blocks::Reading;
 use blocks::Writing;
@@ -15,6 +17,15 @@ use spreads::Due;
 use spreads::Listed;
 use symbols::Exported;
 use symbols::Imported;
+
+// Writes the words of an answer, and hands back the first: 0, or the refusal's number.
+pub(crate) fn tell(words: [u64; 4], answer: &mut [u64; 4]) -> u64
+    ensures { λ r. ⌜ r ≡ firstWord (now (answer .exit)) ⌝ }
+    ensures { λ _. ⌜ now (answer .exit) ≡ words ⌝ }
+{
+    *answer = words;
+    words[0]
+}
 
 // Success, and what it says.
 fn done(a: u64, b: u64, c: u64) -> [u64; 4]

@@ -21,7 +21,7 @@ use Rattle.records.proofs.TableLaws.{whole}
 use Rattle.spreads.specs.Calls.{groupChecks}
 use Rattle.spreads.specs.Spreads.{groupOf, groupIn, groupRule}
 use Rattle.spreads.proofs.Laws.{rule-to-spread, spread-to-rule}
-use Rattle.verdicts.specs.Steps.{Answered, groupTable, worksheetLines}
+use Rattle.verdicts.specs.Steps.Groups.{GroupPasses, groupTable, worksheetLines}
 
 -- ---- those of one group
 
@@ -120,7 +120,7 @@ module _ (xs : List ℕ) (g : ℕ) where
       each-pass (goodRecord Placement) 4 2 0 (recordsOf (groupTable xs g))
       (rw table-records (all-keep (λ r. goodRecord Placement r ≡ true) (ofGroup g) (recordsOf xs) (pass-each (goodRecord Placement) 4 2 0 (recordsOf xs) p)))
 
-  pub table-answered : Answered xs g → Answered (groupTable xs g) g
+  pub table-answered : GroupPasses xs g → GroupPasses (groupTable xs g) g
   unfolding groupChecks tableChecks
   table-answered a =
       let p = clear (groupChecks xs g) a in

@@ -19,7 +19,7 @@ use Rattle.spreads.specs.Boxes.{marginOf}
 use Rattle.spreads.proofs.Laws.{spread-to-no-refusal}
 use Rattle.sheets.specs.Demands.{Kept}
 use Rattle.sheets.proofs.Laws.{claim-at, sound-checked}
-use Rattle.verdicts.specs.Steps.{Answered}
+use Rattle.verdicts.specs.Steps.Groups.{GroupPasses}
 use Rattle.verdicts.specs.TableText.{shownOf, shownIn, groupText, shownText}
 use Rattle.verdicts.proofs.ShownLaws.{shown-more}
 use Rattle.verdicts.proofs.TableFits.{shown-fits}
@@ -32,7 +32,7 @@ module _ (h p c : List ℕ) (kept : Kept h p c) where
   kept-groups = whole Claims (length c) (kept .claims .whole) .1
 
   module _ (k : ℕ) (low : k < length c / 32) where
-    pub kept-answered : Answered p (k + 1)
+    pub kept-answered : GroupPasses p (k + 1)
     unfolding groupChecks
     kept-answered =
         first-then (tableChecks Placement p) (groupRule (k + 1) (legsOf p)) kept-checked

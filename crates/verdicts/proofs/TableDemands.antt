@@ -21,7 +21,7 @@ use Rattle.sheets.specs.Sheets.{claimFor, totalOf}
 use Rattle.sheets.proofs.Laws.{total-claims}
 use Rattle.verdicts.specs.TableText.{shownOf, shownIn, tableText}
 use Rattle.verdicts.specs.TableDemands.{TableReadsBack, TableTotal, TableMargins, TableBoxes, MovedTable, RefusedPrints}
-use Rattle.verdicts.proofs.Demands.{file-just, moved-verdict}
+use Rattle.verdicts.proofs.Demands.{file-iff, moved-verdict}
 use Rattle.verdicts.proofs.ReadBack.{table-read}
 use Rattle.verdicts.proofs.Worksheets.{length-nets}
 
@@ -58,7 +58,7 @@ table-reads-back file n total work e =
 
 pub table-total : TableTotal
 table-total file n amount work e =
-    let k = file-just file n (pos amount) work .0 e in
+    let k = file-iff file n (pos amount) work .0 e in
     let p = legsOf (tablesIn file .placement) in
     let c = claimsOf (tablesIn file .claims) in
     let a : amount ≡ totalOf c = cc (k .3) in

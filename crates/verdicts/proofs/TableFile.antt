@@ -15,9 +15,9 @@ use Rattle.blocks.proofs.Laws.{copied-room}
 use Rattle.sheets.specs.declared.sheet.Verdict.the-variants.{Accepted, Refused}
 use Rattle.verdicts.specs.FileVerdicts.{fileVerdict}
 use Rattle.verdicts.specs.Printed.{refuseLine}
-use Rattle.verdicts.specs.Steps.{ShownBy}
+use Rattle.verdicts.specs.Steps.Groups.{ShownBy}
 use Rattle.verdicts.specs.TableText.{shownIn, shownText, tableText}
-use Rattle.verdicts.proofs.Demands.{file-just}
+use Rattle.verdicts.proofs.Demands.{file-iff}
 
 module _ (file : List ℕ) where
   pub refused-text : (r : Refusal) → fileVerdict file ≡ Refused r → refuseLine r ≡ tableText file
@@ -27,10 +27,10 @@ module _ (file : List ℕ) where
   module _ (n : ℕ) (total : ℤ) (work : ℕ) (e : fileVerdict file ≡ Accepted n total work) where
     pub accepted-text : shownText (shownIn (length (tablesIn file .claims) / 32) (legsOf (tablesIn file .placement))) ≡ tableText file
     unfolding tableText
-    accepted-text = rw (e, file-just file n total work .0 e .2, length-claims (tablesIn file .claims))
+    accepted-text = rw (e, file-iff file n total work .0 e .2, length-claims (tablesIn file .claims))
 
     pub accepted-shown : ShownBy (tablesIn file .placement) (tablesIn file .claims)
-    accepted-shown = (tablesIn file .holdings, file-just file n total work .0 e .1)
+    accepted-shown = (tablesIn file .holdings, file-iff file n total work .0 e .1)
 
   -- the records of a kind in a lent table
   pub copied-front : (kind : Kind) (m : ℕ) (d l : List ℕ) → l ≡ copied kind file d → m ≡ length (tableOf kind (tablesIn file)) → m ≤ length d

@@ -8,21 +8,22 @@ use borrow.Author.Tests.{le-leb}
 use Rattle.records.specs.declared.refusals.Refusal.{Refusal}
 use Rattle.records.specs.declared.refusals.Fault.the-variants.{Nothing}
 use Rattle.records.specs.Order.{firstOf}
+use Rattle.records.specs.Written.{leftAfter}
 use Rattle.records.specs.Tables.{tableChecks, legsOf}
 use Rattle.records.specs.declared.tables.Kind.the-variants.{Placement}
 use Rattle.records.proofs.PassLaws.{clear, unclear, pass-left}
 use Rattle.records.proofs.PutLaws.{put-holds, put-front}
-use Rattle.spreads.specs.Calls.{groupChecks, strikesListed, worksheetCall, listLeft}
+use Rattle.spreads.specs.Calls.{groupChecks, strikesListed, worksheetCall, hasListed}
 use Rattle.records.specs.declared.legs.Leg.{Leg}
 use Rattle.spreads.specs.Prices.{net}
 use Rattle.spreads.specs.Spreads.{groupIn, groupRule}
 use Rattle.spreads.specs.Strikes.{strikesOf, netsOf}
-use Rattle.spreads.specs.declared.calls.Listed.{Listed}
-use Rattle.spreads.specs.declared.calls.Listed.the-variants.{Entries, Refused}
+use Rattle.spreads.specs.declared.answers.Listed.{Listed}
+use Rattle.spreads.specs.declared.answers.Listed.the-variants.{Entries, Refused}
 use Rattle.spreads.proofs.Laws.{list-in, group-few, strikes-count}
-use Rattle.verdicts.specs.Steps.{Answered}
+use Rattle.verdicts.specs.Steps.Groups.{GroupPasses}
 
-module _ (xs : List ℕ) (g : ℕ) (a : Answered xs g) where
+module _ (xs : List ℕ) (g : ℕ) (a : GroupPasses xs g) where
   answered-checked : firstOf (tableChecks Placement xs) ≡ Nothing
   unfolding groupChecks
   answered-checked =
@@ -47,5 +48,5 @@ unfolding netsOf
 length-nets legs = length-map (strikesOf legs) (net legs)
 
 -- the first n entries of a lent slice, where n were listed
-pub listed-front : {A : Type 0} (s d l : List A) (r : Listed) (n : ℕ) → l ≡ listLeft r s d → r ≡ Entries n → n ≡ length s → (n ≤ length l) × (take n l ≡ s)
+pub listed-front : {A : Type 0} (s d l : List A) (r : Listed) (n : ℕ) → l ≡ leftAfter (hasListed r) s d → r ≡ Entries n → n ≡ length s → (n ≤ length l) × (take n l ≡ s)
 listed-front s d l r n e q k = rw (e, q, k) (put-holds d s, put-front d s)

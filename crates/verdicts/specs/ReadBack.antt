@@ -1,32 +1,22 @@
 -- A printed table read back from its bytes, line by line and word by word: what the demands on the table speak of.
-use Prim.Native.Nat.{ℕ, _+_, _*_, _-_}
+use Prim.Native.Nat.{ℕ}
 use mathlib.Core.Bool.{cond}
 use mathlib.Core.List.{List, [], _∷_}
 use lib.Dec.{eqb}
 use lib.IntN.{ℤ, pos, negℤ}
+unfoldable pub use Rattle.records.specs.Text.{valueFrom}
+pub use Rattle.records.specs.Text.{valueOf, onto}
 use Rattle.verdicts.specs.Printed.{space, newline, minusSign}
 use Rattle.verdicts.specs.TableText.{Shown}
 
 -- ---- numbers
 
--- digits read from the left, after digits that said `left`
-unfoldable pub valueFrom : ℕ → List ℕ → ℕ
-valueFrom left [] = left
-valueFrom left (d ∷ ds) = valueFrom (10 * left + (d - 48)) ds
-
-abbrev pub valueOf : List ℕ → ℕ
-valueOf ds = valueFrom 0 ds
-
--- with a minus sign before them, or without
+-- digits with a minus sign before them, or without
 unfoldable pub amountIn : List ℕ → ℤ
 amountIn [] = pos 0
 amountIn (c ∷ cs) = cond (eqb c minusSign) (negℤ (pos (valueOf cs))) (pos (valueOf (c ∷ cs)))
 
 -- ---- lines and words
-
-abbrev pub onto : ℕ → List (List ℕ) → List (List ℕ)
-onto x [] = (x ∷ []) ∷ []
-onto x (part ∷ parts) = (x ∷ part) ∷ parts
 
 -- the parts of a text that a byte ends, the last one also where the text ends
 unfoldable pub partsBy : ℕ → List ℕ → List (List ℕ)

@@ -7,10 +7,11 @@ use lib.ListN.{length, take}
 use Rattle.records.specs.Bytes.{AllBytes}
 use Rattle.records.specs.Lists.{sumOf, most, All}
 use Rattle.records.specs.Tables.{legsOf}
+use Rattle.records.specs.Written.{leftAfter}
+use Rattle.blocks.specs.Writer.{hasWritten}
 use Rattle.records.specs.declared.refusals.Refusal.{Refusal}
-use Rattle.blocks.specs.File.{tablesIn}
-use Rattle.blocks.specs.Writer.{filled}
-use Rattle.blocks.specs.Moves.{moveOf}
+use Rattle.blocks.specs.File.{tablesIn, fileOf}
+use Rattle.blocks.specs.Moves.{moveCall}
 use Rattle.blocks.specs.declared.forms.Form.{Form}
 use Rattle.blocks.specs.declared.forms.Origin.{Origin}
 use Rattle.blocks.specs.declared.answers.Writing.the-variants.{Wrote}
@@ -45,8 +46,8 @@ TableBoxes = (file : List ℕ) (n total work : ℕ) → fileVerdict file ≡ Acc
 
 -- request [6]: a file that was moved prints what it printed
 abbrev pub MovedTable : Type 0
-MovedTable = (from : Form) (to : Origin) (file out : List ℕ) (n : ℕ) → AllBytes file → moveOf from to file (length out) ≡ Wrote n
-    → tableText (take n (filled (Wrote n) to (tablesIn file) out)) ≡ tableText file
+MovedTable = (from : Form) (to : Origin) (file out : List ℕ) (n : ℕ) → AllBytes file → moveCall from to file (length out) ≡ Wrote n
+    → tableText (take n (leftAfter (hasWritten (Wrote n)) (fileOf to (tablesIn file)) out)) ≡ tableText file
 
 -- 'A refused sheet prints only its REFUSE line'
 abbrev pub RefusedPrints : Type 0

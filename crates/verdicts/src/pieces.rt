@@ -5,7 +5,8 @@ ghost use mathlib.Core.List.{[], _∷_, _++_};
 ghost use Prim.Native.Nat.{_+_, _≤_, _<_};
 ghost use lib.IntN.{natAbs};
 ghost use lib.ListN.{length};
-ghost use Rattle.verdicts.specs.Printed.{amountOf, decimalOf, Piece};
+ghost use Rattle.verdicts.specs.Printed.{amountOf, decimalOf};
+ghost use Rattle.verdicts.specs.Steps.Pieces.{Piece};
 
 pub(crate) fn put_byte(byte: u8, out: &mut [u8], at: usize) -> usize
     requires { ⌜ at < length (now out) ⌝ }

@@ -1,15 +1,15 @@
 // The table of a sheet as a customer reads it: each group's margin, and the net at each of its strikes.
 // Document 02, [1].
 ghost use mathlib.Core.Path.{_≡_};
-ghost use Prim.Native.Nat.{_+_, _≤_, _/_};
+ghost use Prim.Native.Nat.{_+_, _≤_};
 ghost use lib.ListN.{length};
-ghost use Rattle.records.specs.Tables.{legsOf};
 ghost use Rattle.records.specs.Written.{putAt};
 ghost use Rattle.spreads.specs.Spreads.{groupIn};
 ghost use Rattle.spreads.specs.Boxes.{marginOf};
-ghost use Rattle.verdicts.specs.Printed.{Piece};
-ghost use Rattle.verdicts.specs.TableText.{groupLine, groupText, shownIn, shownOf, shownText, strikeLine, strikeLines, tableText};
-ghost use Rattle.verdicts.specs.Steps.{Answered, HasRecords, ShownBy, groupTable, worksheetLines};
+ghost use Rattle.verdicts.specs.Steps.Pieces.{Piece};
+ghost use Rattle.verdicts.specs.TableText.{groupLine, groupText, shownOf, strikeLine, strikeLines, tableText};
+ghost use Rattle.verdicts.specs.Steps.Files.{HasRecords};
+ghost use Rattle.verdicts.specs.Steps.Groups.{GroupPasses, ShownBy, groupTable, groupsText, worksheetLines};
 use crate::file::check_copied;
 use crate::line::refuse_line;
 use crate::pieces::put_amount;
@@ -62,7 +62,7 @@ fn put_strike_lines(strikes: &[u32], nets: &[i64], out: &mut [u8], at: usize) ->
 
 // The lines under the margin of a spread. No placement has more strikes than the lists have room for.
 fn put_worksheet(placement: &[u8], g: usize, out: &mut [u8], at: usize) -> usize
-    requires { ⌜ Answered (now placement) g ⌝ }
+    requires { ⌜ GroupPasses (now placement) g ⌝ }
     requires { ⌜ at + length (worksheetLines (now placement) g) ≤ length (now out) ⌝ }
     ensures { λ r. ⌜ Piece (now (out .entry)) at (worksheetLines (now (placement .entry)) g) r (now (out .exit)) ⌝ }
 {
@@ -103,7 +103,7 @@ fn put_group(
     out: &mut [u8],
     at: usize,
 ) -> usize
-    requires { ⌜ Answered (now placement) g × (margin ≡ marginOf (groupIn (now placement) g)) ⌝ }
+    requires { ⌜ GroupPasses (now placement) g × (margin ≡ marginOf (groupIn (now placement) g)) ⌝ }
     requires { ⌜ length (now placement) ≤ length (now table) ⌝ }
     requires { ⌜ at + length (groupText (shownOf g (groupIn (now placement) g))) ≤ length (now out) ⌝ }
     ensures { λ r. ⌜ Piece (now (out .entry)) at (groupText (shownOf g (groupIn (now (placement .entry)) g))) r (now (out .exit)) ⌝ }
@@ -122,7 +122,7 @@ fn put_groups(
 ) -> usize
     requires { ⌜ ShownBy (now placement) (now claims) ⌝ }
     requires { ⌜ length (now placement) ≤ length (now table) ⌝ }
-    ensures { λ r. ⌜ Piece (now (out .entry)) 0 (shownText (shownIn (length (now (claims .entry)) / 32) (legsOf (now (placement .entry))))) r (now (out .exit)) ⌝ }
+    ensures { λ r. ⌜ Piece (now (out .entry)) 0 (groupsText (now (placement .entry)) (now (claims .entry))) r (now (out .exit)) ⌝ }
 {
     let n = claims.len() / RECORD_BYTES;
     let mut next: usize = 0;
@@ -135,7 +135,7 @@ fn put_groups(
     next
 }
 
-// The text of a file without a fault, by its tables. Once the sheet is judged the table of the holdings is free for the
+// The text of a file of good blocks, by its tables. Once the sheet is judged the table of the holdings is free for the
 // records of a group, so that no more is cleared.
 fn read_table(counts: Counts, file: &[u8], out: &mut [u8; TABLE_BYTES]) -> usize
     requires { ⌜ HasRecords (now file) counts ⌝ }
@@ -158,7 +158,7 @@ pub fn table_text(file: &[u8], out: &mut [u8; TABLE_BYTES]) -> usize
     ensures { λ r. ⌜ r ≡ length (tableText (now (file .entry))) ⌝ }
     ensures { λ _. ⌜ now (out .exit) ≡ putAt (now (out .entry)) 0 (tableText (now (file .entry))) ⌝ }
 {
-    match blocks::judge_file(file) {
+    match blocks::scan_file(file) {
         Reading::Refused(refusal) => refuse_line(refusal, out),
         Reading::Read(counts, _) => read_table(counts, file, out),
     }

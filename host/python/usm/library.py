@@ -79,9 +79,9 @@ def call(name: str, *parts: Any, behind: Tuple[Any, ...] = ()) -> Tuple[int, int
     """
     answer = (ctypes.c_uint64 * 4)()
     function = getattr(library(), name)
-    function.restype = None
-    function(*words(*parts), *behind, answer)
-    number, first, second, third = answer
+    function.restype = ctypes.c_uint64
+    number = function(*words(*parts), *behind, answer)
+    _, first, second, third = answer
     if number:
         raise Refusal(number, first, second)
     return first, second, third

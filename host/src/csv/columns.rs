@@ -111,7 +111,8 @@ impl Row<'_> {
         column.and_then(|column| self.cells.get(column)).map_or("", String::as_str)
     }
 
-    /// A number with a decimal point; where semicolons part the cells a decimal comma is one, too.
+    /// A number with a decimal point. Where semicolons part the cells a comma is one, too, and never stands between
+    /// thousands: three digits behind it are what a strike is shown with.
     pub fn decimal(&self, name: &str) -> String {
         match self.separator {
             ';' => self.cell(name).replace(',', "."),

@@ -3,8 +3,8 @@
 use super::columns::{needed, table, Column};
 use super::errors::CellErrors;
 use super::leg::{cells, head, leg, COLUMNS};
-use crate::records::{Fill, MOST_FILLS};
 use crate::text::{name_of, ACTIONS};
+use usm_values::{Fill, MOST_FILLS};
 
 const ACTION: Column = needed("action");
 

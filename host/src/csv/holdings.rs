@@ -3,7 +3,7 @@
 use super::columns::table;
 use super::errors::CellErrors;
 use super::leg::{head, marked_cells, marked_leg, COLUMNS, PAID};
-use crate::records::{Leg, MOST_LEGS};
+use usm_values::{Leg, MOST_LEGS};
 
 /// The holdings in a CSV, in the format [`super::FORMAT`] tells of, or all that is wrong with it.
 ///
@@ -12,6 +12,9 @@ use crate::records::{Leg, MOST_LEGS};
 ///            long;10;call;62,5;2011-05-21;100;7;american;listed\r\n";
 /// let holdings = usm::csv::parse_holdings(csv)?;
 /// assert_eq!((holdings[0].contracts, holdings[0].strike), (10, 62_500));
+///
+/// let three_decimals = usm::csv::parse_holdings(&csv.replace("62,5", "1,060"))?;
+/// assert_eq!(three_decimals[0].strike, 1_060, "in mills: a comma stands before decimals");
 ///
 /// let errors = usm::csv::parse_holdings(&csv.replace("call", "cal")).unwrap_err();
 /// assert_eq!(errors.to_string(), "row 2, column 3 (type): expected `call` or `put`, found `cal`");

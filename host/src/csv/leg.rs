@@ -2,9 +2,9 @@
 
 use super::columns::{needed, optional, Column, Row};
 use super::errors::CellError;
-use crate::records::{Leg, Settlement, GREATEST_UNIT_SIZE, MOST_CONTRACTS};
-use crate::text::{date, date_text, name_of, strike, strike_text, EXPIRY, STRIKE};
+use crate::text::{date, strike, words_of, EXPIRY, STRIKE};
 use crate::text::{MARKETS, SETTLEMENTS, SIDES, STYLES, TYPES};
+use usm_values::{Leg, Settlement, GREATEST_UNIT_SIZE, MOST_CONTRACTS};
 
 /// The columns of a leg that has no paid mark, in the order in which they are written.
 pub const COLUMNS: [Column; 10] = [
@@ -64,22 +64,7 @@ pub fn head<'a>(columns: impl IntoIterator<Item = &'a Column>) -> String {
 
 /// The cells of a leg, in the order of [`COLUMNS`].
 pub fn cells(leg: &Leg) -> String {
-    let settlement = match leg.settlement {
-        Settlement::NotStated => "",
-        settlement => name_of(settlement, SETTLEMENTS),
-    };
-    format!(
-        "{},{},{},{},{},{},{},{},{},{settlement}",
-        name_of(leg.side, SIDES),
-        leg.contracts,
-        name_of(leg.option_type, TYPES),
-        strike_text(leg.strike),
-        date_text(leg.expiry),
-        leg.unit_size,
-        leg.underlying,
-        name_of(leg.style, STYLES),
-        name_of(leg.market, MARKETS),
-    )
+    words_of(leg).join(",")
 }
 
 /// The same, and the paid mark.

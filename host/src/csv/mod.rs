@@ -25,6 +25,7 @@ order and in small or capital letters, and a row for each record:
 The cells have the words of a text. The columns `settlement` and `paid` may be left out or
 empty; `paid` is `yes` where a record is marked so. A placement also has the column `group`,
 with a number or `unplaced`; fills have `action`, `open` or `close`, and no `paid`. Commas or
-semicolons part the cells, the same in every row; where it is semicolons a strike may have a
-decimal comma. A number has no separators between thousands. Empty rows do not count.
+semicolons part the cells, the same in every row. A number has no separators between
+thousands; where semicolons part the cells a comma in a strike is its decimal comma, however
+many digits follow: `1,060` is $1.060, and $1,060 is written `1060`. Empty rows do not count.
 ";

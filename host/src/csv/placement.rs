@@ -3,8 +3,8 @@
 use super::columns::{needed, table, Column, Row};
 use super::errors::{CellError, CellErrors};
 use super::leg::{head, marked_cells, marked_leg, COLUMNS, PAID};
-use crate::records::{Leg, MOST_CLAIMS, MOST_LEGS};
 use crate::text::digits;
+use usm_values::{Leg, MOST_CLAIMS, MOST_LEGS};
 
 const GROUP: Column = needed("group");
 

@@ -1,11 +1,8 @@
 //! Refusals 4 and 25 of credit event binaries: which number is out of range, or which option expires too early.
 
-use crate::binaries::{Binary, LongBinary, GREATEST_SPREAD};
-use crate::numbers::grouped;
-use crate::reason::Reason;
-use crate::records::{is_expiry, MOST_CONTRACTS};
-use crate::refusal::Refusal;
 use crate::text::date_text;
+use usm_values::numbers::grouped;
+use usm_values::{is_expiry, Binary, LongBinary, Reason, Refusal, GREATEST_SPREAD, MOST_CONTRACTS};
 
 /// The sentence of a refusal that [`crate::binary_margin`] answered to these numbers.
 ///
@@ -81,16 +78,4 @@ fn out_of_range(judged: &Judged) -> Vec<String> {
         .filter(|(.., holds)| !holds)
         .map(|(what, value, says, _)| format!("{what} is {value} and must be {says}"))
         .collect()
-}
-
-/// The two reasons by themselves: the place tells the long, or the only one, from the short of a pair.
-pub fn short(place: u64, reason: Reason) -> String {
-    let name = match place {
-        0 => "the option, or the long of a pair,",
-        _ => "the short of the pair",
-    };
-    match reason {
-        Reason::ExpiryBeforeValuation => format!("{name} expires before the valuation date"),
-        _ => format!("{name} has a field or a date out of range"),
-    }
 }

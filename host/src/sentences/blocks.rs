@@ -1,13 +1,10 @@
 //! Refusals 2, 3 and 20: what is wrong with a block.
 
-use crate::block::{
+use usm_values::block::{
     account_of, Header, ACCOUNT_AT, ACCOUNT_END, BLOCK_BYTES, CHECKS_AT, RECORDS_AT, RECORDS_IN_BLOCK,
 };
-use crate::form::Form;
-use crate::numbers::{count, ordinal};
-use crate::reason::Reason;
-use crate::records::{Table, RECORD_BYTES};
-use crate::refusal::Refusal;
+use usm_values::numbers::{count, ordinal};
+use usm_values::{Form, Reason, Refusal, Table, RECORD_BYTES};
 
 pub fn sentence(file: &[u8], refusal: &Refusal) -> Option<String> {
     let number = usize::try_from(refusal.place).ok()?;

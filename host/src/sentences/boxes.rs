@@ -1,6 +1,6 @@
 //! Why a group needs a margin though it loses nothing: it is a European long box.
 
-use crate::numbers::{amount, dollars};
+use usm_values::numbers::{amount, dollars};
 
 /// A margin; and what it is half of, where it is not the worst loss of the worksheet: of a European long box that
 /// is the aggregate difference in exercise prices, its net at every strike.

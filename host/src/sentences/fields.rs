@@ -1,14 +1,13 @@
 //! Refusal 4: which field is out of range, and what stands in it.
 
-use crate::block::{Header, BLOCK_BYTES, RECORDS_AT};
-use crate::fields::*;
-use crate::numbers::ordinal;
-use crate::records::{
-    is_expiry, Table, GREATEST_AMOUNT, GREATEST_STRIKE, GREATEST_UNIT_SIZE, MOST_CLAIMS, MOST_CONTRACTS,
-    RECORD_BYTES,
-};
-use crate::refusal::Refusal;
 use crate::text::raw_text;
+use usm_values::block::{Header, BLOCK_BYTES, RECORDS_AT};
+use usm_values::fields::*;
+use usm_values::numbers::ordinal;
+use usm_values::{
+    is_expiry, Refusal, Table, GREATEST_AMOUNT, GREATEST_STRIKE, GREATEST_UNIT_SIZE, MOST_CLAIMS,
+    MOST_CONTRACTS, RECORD_BYTES,
+};
 
 /// A field, what it is called, and what may stand in it.
 struct Range {

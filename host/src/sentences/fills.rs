@@ -1,11 +1,9 @@
 //! Why a fill is refused, or the holdings that fills are played over.
 
 use crate::fills::play;
-use crate::numbers::{count, grouped, ordinal};
-use crate::reason::Reason;
-use crate::records::{Fill, Leg, FILLS_TABLE, MOST_CONTRACTS, MOST_LEGS};
-use crate::refusal::Refusal;
 use crate::text::{fill_text, leg_text};
+use usm_values::numbers::{count, grouped, ordinal};
+use usm_values::{Fill, Leg, Reason, Refusal, FILLS_TABLE, MOST_CONTRACTS, MOST_LEGS};
 
 /// The sentence of a refusal that [`crate::play`] answered or listed.
 ///

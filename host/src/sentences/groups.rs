@@ -1,10 +1,9 @@
 //! Refusals 6, 11, 12 and 21: what a group as a whole lacks to be a spread, or to be fit for a cash account.
 
 use super::legs::{named, Placed, OF_PLACEMENT};
-use crate::numbers::grouped;
-use crate::reason::Reason;
-use crate::records::{Leg, OptionType, Settlement, Side, Style, MOST_CLAIMS};
 use crate::text::date_text;
+use usm_values::numbers::grouped;
+use usm_values::{Leg, OptionType, Reason, Settlement, Side, Style, MOST_CLAIMS};
 
 pub fn sentence(placement: &[Leg], group: u64, reason: Reason) -> Option<String> {
     let legs = legs_of(placement, group);
@@ -61,6 +60,6 @@ pub fn units(legs: &[Placed], option_type: OptionType) -> (i64, i64) {
 }
 
 /// The legs of a group, with their places.
-pub fn legs_of(placement: &[Leg], group: u64) -> Vec<Placed> {
+pub fn legs_of(placement: &[Leg], group: u64) -> Vec<Placed<'_>> {
     (0..).zip(placement).filter(|(_, leg)| group > 0 && u64::from(leg.group) == group).collect()
 }

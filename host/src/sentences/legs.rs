@@ -3,10 +3,9 @@
 
 use std::cmp::Ordering;
 
-use crate::numbers::ordinal;
-use crate::reason::Reason;
-use crate::records::{Leg, Side};
 use crate::text::{date_text, market_name, placed_text, series_text, side_name, style_name};
+use usm_values::numbers::ordinal;
+use usm_values::{Leg, Reason, Side};
 
 /// A leg and its place in the placement.
 pub type Placed<'a> = (u64, &'a Leg);
@@ -32,7 +31,7 @@ pub fn sentence(placement: &[Leg], place: u64, reason: Reason) -> Option<String>
 }
 
 /// The first leg before the one at this place, in its group, that it does not go with.
-pub fn earlier(placement: &[Leg], place: u64, reason: Reason) -> Option<Placed> {
+pub fn earlier(placement: &[Leg], place: u64, reason: Reason) -> Option<Placed<'_>> {
     let index = usize::try_from(place).ok()?;
     let leg = placement.get(index).filter(|leg| leg.group > 0)?;
     let before = (0..).zip(&placement[..index]).filter(|(_, other)| other.group == leg.group);

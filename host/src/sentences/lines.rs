@@ -2,7 +2,7 @@
 
 use std::ops::Range;
 
-use crate::records::{is_expiry, padded_root, GREATEST_STRIKE, MOST_CONTRACTS};
+use usm_values::{is_expiry, padded_root, GREATEST_STRIKE, MOST_CONTRACTS};
 
 /// Columns of a line, what may stand in them, and how that is said.
 struct Part {

@@ -1,10 +1,8 @@
 //! Why a file is not moved to the other form.
 
-use super::of_file;
-use crate::form::{Form, Origin};
-use crate::reason::Reason;
-use crate::refusal::Refusal;
+use super::files::of_file;
 use crate::sheet::Sheet;
+use usm_values::{Form, Origin, Reason, Refusal};
 
 /// The sentence of a refusal that the move of this file to this form and account answered.
 ///

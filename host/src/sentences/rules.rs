@@ -1,12 +1,10 @@
 //! Refusals 5 and 14 to 16: what a sheet's records say, and what they should.
 
 use super::boxes::of_margin;
-use crate::numbers::{amount, count, ordinal};
-use crate::reason::Reason;
-use crate::records::{Leg, Side};
-use crate::refusal::Refusal;
 use crate::sheet::Sheet;
 use crate::text::{leg_text, placed_text, side_name};
+use usm_values::numbers::{amount, count, ordinal};
+use usm_values::{Leg, Reason, Refusal, Side};
 
 pub fn sentence(sheet: &Sheet, refusal: &Refusal, reason: Reason) -> Option<String> {
     let place = usize::try_from(refusal.place).ok()?;

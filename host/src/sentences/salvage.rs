@@ -1,13 +1,10 @@
 //! What was dropped from a damaged file, what is left out with it, and why a file cannot be salvaged.
 
 use super::{blocks, fields, size, strangers};
-use crate::block::{account_of, ACCOUNT_AT, BLOCK_BYTES, RECORDS_AT, RECORDS_IN_BLOCK};
-use crate::form::{Form, Origin};
-use crate::numbers::{count, ordinal};
-use crate::reason::Reason;
-use crate::records::{Table, RECORD_BYTES};
-use crate::refusal::Refusal;
 use crate::salvage::{salvage_file, Dropped};
+use usm_values::block::{account_of, ACCOUNT_AT, BLOCK_BYTES, RECORDS_AT, RECORDS_IN_BLOCK};
+use usm_values::numbers::{count, ordinal};
+use usm_values::{Form, Origin, Reason, Refusal, Table, RECORD_BYTES};
 
 /// Why each block that [`salvage_file`] dropped from these bytes was dropped, a sentence each.
 ///

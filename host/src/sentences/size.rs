@@ -1,7 +1,7 @@
 //! Refusal 1 of a file, by case.
 
-use crate::block::{BLOCK_BYTES, LONGEST_FILE, MOST_BLOCKS};
-use crate::numbers::{count, grouped};
+use usm_values::block::{BLOCK_BYTES, LONGEST_FILE, MOST_BLOCKS};
+use usm_values::numbers::{count, grouped};
 
 /// What is wrong with the file's size, if anything is.
 pub fn sentence(file: &[u8]) -> Option<String> {

@@ -1,8 +1,8 @@
 //! Files that are no sheet files, of whatever size: what they look like, and what to do with them.
 
-use crate::block::BLOCK_BYTES;
-use crate::form::Form;
 use crate::text::is_section;
+use usm_values::block::BLOCK_BYTES;
+use usm_values::Form;
 
 /// What files of other kinds begin with, what they are, and what may help.
 const KINDS: [(&[u8], &str); 12] = [
@@ -20,14 +20,24 @@ const KINDS: [(&[u8], &str); 12] = [
     (b"\xfe\xff", "text in UTF-16, which has to be saved as UTF-8"),
 ];
 
+/// What a file of another kind is by its first bytes, and what may help: a PDF, something packed, an office document.
+///
+/// ```
+/// use usm::sentences::other_kind;
+/// assert_eq!(other_kind(b"%PDF-1.4\n"), Some("a PDF document"));
+/// assert_eq!(other_kind(b"holdings\n"), None);
+/// ```
+pub fn other_kind(file: &[u8]) -> Option<&'static str> {
+    KINDS.iter().find(|(start, _)| file.starts_with(start)).map(|(_, kind)| *kind)
+}
+
 /// Why a file is none of ours: no block of it begins with a mark. An empty one may be what is left of a sheet file.
 pub fn sentence(file: &[u8]) -> Option<String> {
     let marked = file.chunks(BLOCK_BYTES).any(|block| Form::of_block(block).is_some());
     if file.is_empty() || marked {
         return None;
     }
-    let kind = KINDS.iter().find(|(start, _)| file.starts_with(start)).map(|(_, kind)| *kind);
-    let looks = match (kind, of_text(file)) {
+    let looks = match (other_kind(file), of_text(file)) {
         (Some(kind), _) => format!("it looks like {kind}"),
         (None, Some(text)) => return Some(text),
         (None, None) if file.iter().all(|byte| *byte == 0) => String::from("it has nothing but zero bytes"),

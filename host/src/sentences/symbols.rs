@@ -2,14 +2,12 @@
 
 use super::fields;
 use super::lines::{field_faults, form_fault};
-use crate::numbers::{count, ordinal};
-use crate::reason::Reason;
-use crate::records::{
-    padded_root, Leg, Root, Table, GREATEST_UNIT_SIZE, LIST_TABLE, MOST_LEGS, MOST_LINES, MOST_ROOTS,
-    ROOTS_TABLE, ROOT_NAME_BYTES,
-};
-use crate::refusal::Refusal;
 use crate::text::{escaped_bytes, leg_text, line_of_bytes, terms_text};
+use usm_values::numbers::{count, ordinal};
+use usm_values::{
+    padded_root, Leg, Reason, Refusal, Root, Table, GREATEST_UNIT_SIZE, LIST_TABLE, MOST_LEGS, MOST_LINES,
+    MOST_ROOTS, ROOTS_TABLE, ROOT_NAME_BYTES,
+};
 
 /// The sentence of a refusal that [`crate::holdings_of_list`] answered.
 ///

@@ -2,10 +2,8 @@
 
 use super::groups::{legs_of, units};
 use super::rules::{claimed_and_due, held_and_placed};
-use crate::reason::Reason;
-use crate::records::OptionType;
-use crate::refusal::Refusal;
 use crate::sheet::Sheet;
+use usm_values::{OptionType, Reason, Refusal};
 
 /// The two amounts that a refusal found unequal.
 #[derive(Clone, Copy, Debug, PartialEq, Eq)]

@@ -3,12 +3,12 @@
 use std::fmt::Write;
 
 use super::errors::{TextError, TextErrors};
+use super::line::leg_words;
 use super::names::{name_of, ACTIONS};
 use super::parse::{add, each_line};
 use super::record::fill;
-use super::show::leg_words;
 use super::words::Words;
-use crate::records::{Fill, MOST_FILLS};
+use usm_values::{Fill, MOST_FILLS};
 
 /// The word that opens a text of fills.
 const SECTION: &str = "fills";
@@ -70,8 +70,8 @@ pub fn show_fills(fills: &[Fill]) -> String {
 #[cfg(test)]
 mod tests {
     use super::*;
-    use crate::accounts::{in_group, leg};
-    use crate::records::Action;
+    use usm_kit::accounts::{in_group, leg};
+    use usm_values::Action;
 
     const LEG: &str = "long 1 call 60 2011-05-21 unit 100 underlying 7 american listed";
 

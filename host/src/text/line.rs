@@ -1,12 +1,55 @@
-//! One record as its words, for sentences: what [`super::show`] prints, without the padding.
+//! One record as its words: padded, as a text shows it, and not, as a sentence quotes it.
 
 use super::names::{name_of, ACTIONS, MARKETS, SETTLEMENTS, SIDES, STYLES, TYPES};
-use super::show::leg_words;
-use crate::fields::{
+use usm_values::fields::{
     get, Field, CONTRACTS, EXPIRY, GROUP, MARKET, PAID, SETTLEMENT, SIDE, STRIKE, STYLE, TYPE, UNDERLYING,
     UNIT_SIZE,
 };
-use crate::records::{Fill, Leg, Market, Side, Style, RECORD_BYTES};
+use usm_values::{Fill, Leg, Market, Settlement, Side, Style, RECORD_BYTES};
+
+/// The words of a leg one by one: side, contracts, type, strike, expiry, unit size, underlying, style, market, and its
+/// settlement, which is empty where it is not stated.
+pub fn words_of(leg: &Leg) -> [String; 10] {
+    [
+        String::from(name_of(leg.side, SIDES)),
+        leg.contracts.to_string(),
+        String::from(name_of(leg.option_type, TYPES)),
+        strike_text(leg.strike),
+        date_text(leg.expiry),
+        leg.unit_size.to_string(),
+        leg.underlying.to_string(),
+        String::from(name_of(leg.style, STYLES)),
+        String::from(name_of(leg.market, MARKETS)),
+        String::from(settlement_word(leg.settlement)),
+    ]
+}
+
+/// The words of a leg, padded so that those of one table stand in columns.
+pub fn leg_words(leg: &Leg) -> String {
+    let [side, contracts, option_type, strike, expiry, unit, underlying, style, market, settlement] =
+        words_of(leg);
+    let (settlement, paid) = (behind_blank(&settlement), if leg.paid { " paid" } else { "" });
+    format!(
+        "{side:<5} {contracts} {option_type:<4} {strike} {expiry} unit {unit} underlying {underlying} \
+         {style} {market}{settlement}{paid}"
+    )
+}
+
+/// A settlement that is not stated has no word.
+pub fn settlement_word(settlement: Settlement) -> &'static str {
+    match settlement {
+        Settlement::NotStated => "",
+        settlement => name_of(settlement, SETTLEMENTS),
+    }
+}
+
+/// A word that need not be there, behind a blank.
+pub fn behind_blank(word: &str) -> String {
+    match word {
+        "" => String::new(),
+        word => format!(" {word}"),
+    }
+}
 
 /// A leg as it stands in the holdings.
 pub fn leg_text(leg: &Leg) -> String {
@@ -98,8 +141,7 @@ pub fn raw_text(record: &[u8; RECORD_BYTES]) -> String {
 #[cfg(test)]
 mod tests {
     use super::*;
-    use crate::accounts::{in_group, leg};
-    use crate::records::Settlement;
+    use usm_kit::accounts::{in_group, leg};
 
     #[test]
     fn a_record_in_range_has_one_text() {

@@ -13,13 +13,12 @@ mod values;
 mod words;
 
 pub use errors::{Errors, TextError, TextErrors};
-pub use escape::escaped;
-pub(crate) use escape::{escaped_bytes, line_of_bytes, quoted};
+pub use escape::{escaped, escaped_bytes};
+pub(crate) use escape::{line_of_bytes, quoted};
 pub use fills::{parse_fills, show_fills};
-#[doc(hidden)]
 pub use line::date_text;
 pub(crate) use line::{
-    fill_text, leg_text, market_name, placed_text, raw_text, series_text, side_name, strike_text, style_name,
+    fill_text, leg_text, market_name, placed_text, raw_text, series_text, side_name, style_name, words_of,
 };
 pub(crate) use names::{name_of, Names, ACTIONS, MARKETS, SETTLEMENTS, SIDES, STYLES, TYPES};
 pub(crate) use parse::is_section;
@@ -28,7 +27,6 @@ pub(crate) use roots::terms_text;
 pub use roots::{parse_roots, show_roots};
 pub use show::{show, show_held, show_holdings, show_placement};
 pub(crate) use values::{date, strike, EXPIRY, STRIKE};
-#[doc(hidden)]
 pub use words::digits;
 
 /// The text format, as the help of `usm_sheet` prints it.

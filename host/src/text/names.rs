@@ -1,6 +1,6 @@
 //! The words for the terms of a leg, for both ways.
 
-use crate::records::{Action, Market, OptionType, Settlement, Side, Style};
+use usm_values::{Action, Market, OptionType, Settlement, Side, Style};
 
 /// The words for a term with two values.
 pub type Names<T> = [(&'static str, T); 2];

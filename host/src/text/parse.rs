@@ -3,8 +3,8 @@
 use super::errors::{TextError, TextErrors};
 use super::record::{claim, holding, placed_leg};
 use super::words::Words;
-use crate::records::{MOST_CLAIMS, MOST_LEGS};
 use crate::sheet::Sheet;
+use usm_values::{MOST_CLAIMS, MOST_LEGS};
 
 #[derive(Clone, Copy, PartialEq, Eq, PartialOrd)]
 enum Section {
@@ -149,7 +149,7 @@ pub(super) fn add<T>(
 #[cfg(test)]
 mod tests {
     use super::*;
-    use crate::records::Settlement;
+    use usm_values::Settlement;
 
     fn error_of(text: &str) -> String {
         parse(text).unwrap_err().to_string()

@@ -4,7 +4,7 @@ use super::errors::TextError;
 use super::names::{ACTIONS, MARKETS, SETTLEMENTS, SIDES, STYLES, TYPES};
 use super::values::{a_margin, date, margin, strike, EXPIRY, STRIKE};
 use super::words::Words;
-use crate::records::{Claim, Fill, Leg, Settlement, GREATEST_UNIT_SIZE, MOST_CLAIMS, MOST_CONTRACTS};
+use usm_values::{Claim, Fill, Leg, Settlement, GREATEST_UNIT_SIZE, MOST_CLAIMS, MOST_CONTRACTS};
 
 pub fn holding(words: &mut Words) -> Result<Leg, TextError> {
     leg(0, ", or the section `placement` or `claims`", true, words)

@@ -3,12 +3,12 @@
 use std::fmt::Write;
 
 use super::errors::{TextError, TextErrors};
+use super::line::{behind_blank, settlement_word};
 use super::names::{name_of, MARKETS, STYLES};
 use super::parse::{add, each_line};
 use super::record::{settlement, underlying, unit_size};
-use super::show::settlement_words;
 use super::words::Words;
-use crate::records::{padded_root, Root, MOST_ROOTS, ROOT_NAME_BYTES};
+use usm_values::{padded_root, Root, MOST_ROOTS, ROOT_NAME_BYTES};
 
 /// The roots a text describes, in the format [`super::ROOTS_FORMAT`] tells of, or all that is wrong with it.
 /// That no two are the same is asked by the calls that take them (23).
@@ -62,7 +62,7 @@ pub fn terms_text(root: &Root) -> String {
         name_of(root.style, STYLES),
         name_of(root.market, MARKETS),
         root.unit_size,
-        settlement_words(root.settlement),
+        behind_blank(settlement_word(root.settlement)),
         root.underlying,
     )
 }

@@ -2,10 +2,9 @@
 
 use std::fmt::Write;
 
-use super::line::{date_text, place_text, strike_text};
-use super::names::{name_of, MARKETS, SETTLEMENTS, SIDES, STYLES, TYPES};
-use crate::records::{Leg, Settlement};
+use super::line::{leg_words, place_text};
 use crate::sheet::Sheet;
+use usm_values::Leg;
 
 /// The sheet as text, in the format [`super::FORMAT`] tells of.
 ///
@@ -59,30 +58,4 @@ pub fn show_placement(placement: &[Leg]) -> String {
 
 fn line(text: &mut String, words: String) {
     writeln!(text, "  {words}").expect("a string takes all text");
-}
-
-/// The words of a leg, padded so that those of one table stand in columns.
-pub fn leg_words(leg: &Leg) -> String {
-    let paid = if leg.paid { " paid" } else { "" };
-    format!(
-        "{:<5} {} {:<4} {} {} unit {} underlying {} {} {}{}{paid}",
-        name_of(leg.side, SIDES),
-        leg.contracts,
-        name_of(leg.option_type, TYPES),
-        strike_text(leg.strike),
-        date_text(leg.expiry),
-        leg.unit_size,
-        leg.underlying,
-        name_of(leg.style, STYLES),
-        name_of(leg.market, MARKETS),
-        settlement_words(leg.settlement),
-    )
-}
-
-/// The settlement behind a blank; one that is not stated has no word.
-pub fn settlement_words(settlement: Settlement) -> String {
-    match settlement {
-        Settlement::NotStated => String::new(),
-        settlement => format!(" {}", name_of(settlement, SETTLEMENTS)),
-    }
 }

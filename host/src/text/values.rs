@@ -1,7 +1,7 @@
 //! Strikes, margins and dates as they are written.
 
 use super::words::digits;
-use crate::records::{is_expiry, GREATEST_AMOUNT, GREATEST_STRIKE};
+use usm_values::{is_expiry, GREATEST_AMOUNT, GREATEST_STRIKE};
 
 /// What is expected where [`strike`] finds none.
 pub const STRIKE: &str = "a strike in dollars from 0.001 to 99999.999 with up to three decimals";

@@ -1,8 +1,8 @@
 //! Rows P1 to P12, and the lines a sheet prints.
 
-use usm::accounts::{in_group, leg, paid, placed, times};
-use usm::both::BOTH;
 use usm::{Leg, Sheet};
+use usm_kit::accounts::{in_group, leg, paid, placed, times};
+use usm_kit::both::BOTH;
 
 use crate::{assert_line, assert_margin, nets, refusal};
 

@@ -1,7 +1,7 @@
 //! Credit event binaries (document 02, [11]): the cells of circular RG11-039, its edges, and pairs.
 
-use usm::both::BOTH;
 use usm::{binary_cell, Binary, Cell, LongBinary, Refusal, Side, SPREADS, TIMES};
+use usm_kit::both::BOTH;
 
 use crate::refusal;
 

@@ -1,8 +1,8 @@
 //! European long boxes (document 02, [2]), worked by hand.
 
-use usm::accounts::{leg, placed, times};
-use usm::both::BOTH;
 use usm::{Accepted, Leg, Market, Style};
+use usm_kit::accounts::{leg, placed, times};
+use usm_kit::both::BOTH;
 
 use crate::{assert_line, assert_margin, assert_verdict, nets, refusal};
 

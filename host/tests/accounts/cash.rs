@@ -1,8 +1,8 @@
 //! Cash accounts (document 02, [7]): settlement in a line, and the cash that a fit group requires.
 
-use usm::accounts::{in_group, leg, placed, times};
-use usm::both::BOTH;
 use usm::{leg_table, Accepted, Leg, Refusal, Settlement, Style, Table};
+use usm_kit::accounts::{in_group, leg, placed, times};
+use usm_kit::both::BOTH;
 
 use crate::{assert_margin, assert_verdict, refusal};
 

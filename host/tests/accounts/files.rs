@@ -1,9 +1,9 @@
 //! The order of refusals in a file, and its round trip.
 
-use usm::accounts::{in_group, leg, placed};
-use usm::block::{seal, BLOCK_BYTES, RECORDS_AT};
-use usm::both::BOTH;
 use usm::{Leg, Origin, RecordCounts, Sheet, RECORD_BYTES};
+use usm_kit::accounts::{in_group, leg, placed};
+use usm_kit::block::{seal, BLOCK_BYTES, RECORDS_AT};
+use usm_kit::both::BOTH;
 
 use crate::refusal;
 

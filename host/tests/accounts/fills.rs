@@ -1,10 +1,10 @@
 //! Holdings built from a day's fills (document 02, [4]), worked by hand.
 
-use usm::accounts::{in_group, leg, times};
-use usm::both::{Calls, BOTH};
-use usm::fields::{put, ACTION, CONTRACTS, GROUP, PAID, SETTLEMENT, SIDE};
 use usm::Action::{Close, Open};
 use usm::{fill_table, leg_table, Action, Fill, Leg, Refusal, Side, RECORD_BYTES};
+use usm_kit::accounts::{in_group, leg, times};
+use usm_kit::both::{Calls, BOTH};
+use usm_kit::fields::{put, ACTION, CONTRACTS, GROUP, PAID, SETTLEMENT, SIDE};
 
 use crate::refusal;
 

@@ -1,9 +1,9 @@
 //! The new form of a file, with an account in each block, and the moves between the forms (document 02, [6]).
 
-use usm::accounts::{leg, placed};
-use usm::block::{seal, BLOCK_BYTES};
-use usm::both::{Calls, BOTH};
 use usm::{Form, Leg, Origin, RecordCounts, Refusal, Sheet, Tables, LONGEST_FILE};
+use usm_kit::accounts::{leg, placed};
+use usm_kit::block::{seal, BLOCK_BYTES};
+use usm_kit::both::{Calls, BOTH};
 
 use crate::refusal;
 

@@ -1,8 +1,8 @@
 //! Joined groups (document 02, [13]), worked by hand: what two groups need apart, and what they need in one.
 
-use usm::accounts::{in_group, leg, placed};
-use usm::both::BOTH;
 use usm::{Leg, Market, OptionType, Refusal, Style, Tables};
+use usm_kit::accounts::{in_group, leg, placed};
+use usm_kit::both::BOTH;
 
 use crate::{assert_line, refusal};
 

@@ -1,9 +1,9 @@
 //! Values just inside and just outside the limits, and the readings of open points.
 
-use usm::accounts::{fullest, in_group, leg, paid, placed};
-use usm::block::LONGEST_FILE;
-use usm::both::BOTH;
 use usm::{leg_table, Accepted, Leg, Origin, Refusal, Sheet, Side, Table};
+use usm_kit::accounts::{fullest, in_group, leg, paid, placed};
+use usm_kit::block::LONGEST_FILE;
+use usm_kit::both::BOTH;
 
 use crate::{assert_line, assert_margin, assert_verdict, refusal};
 

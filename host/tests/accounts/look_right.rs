@@ -1,7 +1,7 @@
 //! "Errors that look right": each test fails for a program that makes the error.
 
-use usm::accounts::{in_group, leg, paid, placed, times};
 use usm::{Accepted, Leg, Market, Settlement, Sheet, Style};
+use usm_kit::accounts::{in_group, leg, paid, placed, times};
 
 use crate::{assert_margin, assert_verdict, refusal};
 

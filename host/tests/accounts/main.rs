@@ -20,9 +20,9 @@ mod symbols;
 mod unplaced;
 mod work;
 
-use usm::block::LONGEST_FILE;
-use usm::both::{Calls, BOTH};
 use usm::{leg_table, Accepted, Leg, Origin, Refusal, Sheet, Tables};
+use usm_kit::block::LONGEST_FILE;
+use usm_kit::both::{Calls, BOTH};
 
 pub fn refusal<T>(number: u64, table: u64, place: u64) -> Result<T, Refusal> {
     Err(Refusal::new(number, table, place))

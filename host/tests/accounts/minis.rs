@@ -1,8 +1,8 @@
 //! Reduced contracts against standard ones at one strike and expiry (document 02, [3]).
 
-use usm::accounts::{in_group, leg, placed, times};
-use usm::both::BOTH;
 use usm::{Leg, Style};
+use usm_kit::accounts::{in_group, leg, placed, times};
+use usm_kit::both::BOTH;
 
 use crate::{assert_line, assert_margin, assert_verdict, nets, refusal};
 

@@ -1,9 +1,9 @@
 //! Point at the leg (document 02, [14]): rows beside P9 and P11 in which the record is neither the number of the group
 //! nor the leg's place among the group's legs.
 
-use usm::accounts::{in_group, leg, paid, placed, times};
-use usm::both::BOTH;
 use usm::{leg_table, Leg, Market, Style};
+use usm_kit::accounts::{in_group, leg, paid, placed, times};
+use usm_kit::both::BOTH;
 
 use crate::{assert_line, assert_verdict, refusal};
 

@@ -1,9 +1,9 @@
 //! A damaged file salvaged (document 02, [10]), worked by hand.
 
-use usm::accounts::{fullest, in_group, leg, placed};
-use usm::block::{account_of, renumber, seal, BLOCK_BYTES, LONGEST_FILE, MOST_BLOCKS, RECORDS_AT};
-use usm::both::BOTH;
 use usm::{salvage_file, Dropped, Leg, Reason, Refusal, Sheet};
+use usm_kit::accounts::{fullest, in_group, leg, placed};
+use usm_kit::block::{account_of, renumber, seal, BLOCK_BYTES, LONGEST_FILE, MOST_BLOCKS, RECORDS_AT};
+use usm_kit::both::BOTH;
 
 use crate::refusal;
 

@@ -1,8 +1,8 @@
 //! The paid mark of unplaced longs, and the pass that sets it (document 02, [8]).
 
-use usm::accounts::{in_group, leg, paid, placed, times};
-use usm::both::BOTH;
 use usm::{leg_table, Accepted, Leg, Sheet, Side, Table};
+use usm_kit::accounts::{in_group, leg, paid, placed, times};
+use usm_kit::both::BOTH;
 
 use crate::{assert_margin, assert_verdict, refusal};
 

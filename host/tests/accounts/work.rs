@@ -1,8 +1,8 @@
 //! How much work a sheet may cause (document 02, [12]): intrinsic values, counted from the placement.
 
-use usm::accounts::{fullest, in_group, leg, paid, placed, times};
-use usm::both::BOTH;
 use usm::{ffi, Leg, Sheet, Side, Style, Tables, MOST_LEGS, MOST_WORK};
+use usm_kit::accounts::{fullest, in_group, leg, paid, placed, times};
+use usm_kit::both::BOTH;
 
 /// The work of an accepted sheet, by library and model, as tables and as a file.
 #[track_caller]

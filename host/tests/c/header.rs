@@ -3,7 +3,8 @@
 use std::collections::{BTreeMap, BTreeSet};
 
 use usm::ffi::{Answer, LINE_BYTES, TABLE_BYTES};
-use usm::{block, fields, Action, Form, Market, OptionType, Reason, Settlement, Side, Style, Table};
+use usm::{Action, Form, Market, OptionType, Reason, Settlement, Side, Style, Table};
+use usm_kit::{block, fields};
 
 const HEADER: &str = include_str!("../../include/usm.h");
 
@@ -112,7 +113,7 @@ fn terms_tables_and_sizes_have_rusts_numbers() {
 /// A file's first block says by its own bytes what stands where.
 #[test]
 fn a_block_begins_as_the_header_says() {
-    let file = usm::accounts::fullest().to_file().expect("a file");
+    let file = usm_kit::accounts::fullest().to_file().expect("a file");
     let at = |name: &str| constant(name) as usize;
     let last = &file[file.len() - block::BLOCK_BYTES..];
     assert_eq!(last[at("USM_BLOCK_MARK")..][..4], *b"USM1");
@@ -122,14 +123,15 @@ fn a_block_begins_as_the_header_says() {
     assert_eq!(last[at("USM_BLOCK_BLOCKS")], 39);
 }
 
+fn is_in_name(c: char) -> bool {
+    c.is_ascii_alphanumeric() || c == '_'
+}
+
 /// The names that start with `usm_` and are followed by an argument list.
 fn calls_named_in(source: &str) -> BTreeSet<&str> {
-    let names = source.split(|c: char| !(c.is_ascii_alphanumeric() || c == '_' || c == '('));
-    names
-        .filter_map(|word| word.split_once('('))
-        .map(|(name, _)| name)
-        .filter(|name| name.starts_with("usm_"))
-        .collect()
+    let (before_lists, _) = source.rsplit_once('(').unwrap_or_default();
+    let names = before_lists.split('(').filter_map(|text| text.rsplit(|c: char| !is_in_name(c)).next());
+    names.filter(|name| name.starts_with("usm_")).collect()
 }
 
 #[test]

@@ -2,15 +2,16 @@
 
 use std::fs;
 use std::io::Write;
-use std::path::{Path, PathBuf};
+use std::path::PathBuf;
 use std::process::Stdio;
 use std::thread::sleep;
 use std::time::Duration;
+use usm_kit::repository;
 
 /// The program of this name: where `USM_CHECK`, `USM_TABLE` or `USM_BENCH` says, or where `rt check` puts it.
 pub fn built(name: &str) -> PathBuf {
     let variable = format!("USM_{}", name.trim_start_matches("usm_").to_uppercase());
-    let built = Path::new(env!("CARGO_MANIFEST_DIR")).join("../target/bin").join(name);
+    let built = repository().join("target/bin").join(name);
     let program = std::env::var_os(&variable).map_or(built, PathBuf::from);
     assert!(
         program.is_file(),
@@ -38,7 +39,7 @@ pub fn printed(name: &str, pieces: &[&[u8]], pause: Duration) -> String {
 
 /// The names of the samples, and their bytes.
 pub fn samples() -> Vec<(String, Vec<u8>)> {
-    let folder = Path::new(env!("CARGO_MANIFEST_DIR")).join("../samples");
+    let folder = repository().join("samples");
     let entries = fs::read_dir(folder).expect("the samples").map(|entry| entry.expect("an entry").path());
     let sheets = entries.filter(|path| path.extension().map_or(false, |kind| kind == "usm"));
     let samples: Vec<(String, Vec<u8>)> =

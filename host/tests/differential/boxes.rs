@@ -1,7 +1,8 @@
 //! European long boxes made on purpose, and spreads that are nearly one.
 
-use usm::accounts::in_group;
-use usm::{leg_table, model, Claim, Leg, OptionType, Sheet, Side, Style, GREATEST_STRIKE, MOST_CONTRACTS};
+use usm::{leg_table, Claim, Leg, OptionType, Sheet, Side, Style, GREATEST_STRIKE, MOST_CONTRACTS};
+use usm_kit::accounts::in_group;
+use usm_kit::model;
 
 use crate::random::Random;
 use crate::spreads;

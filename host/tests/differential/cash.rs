@@ -1,7 +1,8 @@
 //! Groups that are fit for a cash account made on purpose, and some that one thing keeps from it.
 
-use usm::accounts::in_group;
-use usm::{leg_table, model, Claim, Leg, Settlement, Sheet, Style};
+use usm::{leg_table, Claim, Leg, Settlement, Sheet, Style};
+use usm_kit::accounts::in_group;
+use usm_kit::model;
 
 use crate::random::Random;
 use crate::{boxes, spreads};

@@ -4,20 +4,21 @@
 use std::fmt::{Debug, Display};
 
 use usm::ffi::{self, Answer, LINE_BYTES, TABLE_BYTES};
-use usm::lent::Lent;
-use usm::{model, Accepted, Form, Origin, PlayCounts, Refusal, Table, Tables, RECORD_BYTES};
+use usm::{Accepted, Form, Origin, PlayCounts, Refusal, Table, Tables, RECORD_BYTES};
+use usm_kit::lent::Lent;
+use usm_kit::model;
 
 use crate::fills::Day;
 
 /// What no answer ever holds.
 const UNWRITTEN: u64 = 0xFEED_FACE_CAFE_BEEF;
 
-/// The four numbers that a call makes its answer, if the guards around them stayed.
-pub fn answer_of(call: impl FnOnce(&mut Answer)) -> Option<Answer> {
+/// The four numbers that a call makes its answer, if the guards around them stayed and the first is what it returned.
+pub fn answer_of(call: impl FnOnce(&mut Answer) -> u64) -> Option<Answer> {
     let mut numbers = [UNWRITTEN; 6];
-    call((&mut numbers[1..5]).try_into().expect("four numbers"));
+    let returned = call((&mut numbers[1..5]).try_into().expect("four numbers"));
     let [before, answer @ .., behind] = numbers;
-    (before == UNWRITTEN && behind == UNWRITTEN).then_some(answer)
+    (before == UNWRITTEN && behind == UNWRITTEN && returned == answer[0]).then_some(answer)
 }
 
 /// The four numbers a result stands for.
@@ -51,7 +52,7 @@ fn same_output<T>(
     case: &dyn Display,
     call: &str,
     (room, unit): (usize, usize),
-    library: impl FnOnce(&mut [T], &mut Answer),
+    library: impl FnOnce(&mut [T], &mut Answer) -> u64,
     model: impl FnOnce(&mut [T]) -> Result<usize, Refusal>,
 ) -> u64
 where

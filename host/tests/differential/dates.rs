@@ -1,7 +1,7 @@
 //! Every day of the century, and days that there are none of: months as a member recites them.
 
-use usm::accounts::{in_group, leg};
 use usm::{is_expiry, leg_table, Leg, Table};
+use usm_kit::accounts::{in_group, leg};
 
 use crate::compare;
 

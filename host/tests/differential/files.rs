@@ -1,9 +1,9 @@
 //! Sheet files, and damage to them: by the mail, by a tool, or by someone who mends the checks.
 
-use usm::block::{
+use usm::{Form, Origin, Tables, RECORD_BYTES};
+use usm_kit::block::{
     account_of, renumber, seal, ACCOUNT_AT, ACCOUNT_END, BLOCK_BYTES, CHECKS_AT, RECORDS_AT, RECORDS_IN_BLOCK,
 };
-use usm::{Form, Origin, Tables, RECORD_BYTES};
 
 use crate::random::Random;
 

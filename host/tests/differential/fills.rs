@@ -1,10 +1,10 @@
 //! Days of fills: small worlds in which lots run out and over, and full tables in which rooms do.
 
-use usm::accounts::in_group;
-use usm::fields::{put, records, ACTION, FILLER};
 use usm::{
     fill_table, leg_table, Action, Fill, Leg, Side, MOST_CONTRACTS, MOST_FILLS, MOST_LEGS, RECORD_BYTES,
 };
+use usm_kit::accounts::in_group;
+use usm_kit::fields::{put, records, ACTION, FILLER};
 
 use crate::random::Random;
 use crate::spreads;
@@ -66,7 +66,7 @@ fn line(random: &mut Random) -> Leg {
     if random.one_in(2) {
         leg
     } else {
-        let plain = in_group(0, usm::accounts::leg("L60c"));
+        let plain = in_group(0, usm_kit::accounts::leg("L60c"));
         match random.below(8) {
             0 => Leg { style: leg.style, ..plain },
             1 => Leg { market: leg.market, ..plain },
@@ -89,7 +89,7 @@ fn full_table(random: &mut Random) -> (Vec<u8>, Vec<u8>) {
         side: if strike % 3 == 0 { Side::Short } else { Side::Long },
         strike,
         contracts: if largest > 2 { largest } else { random.between(1, largest) },
-        ..in_group(0, usm::accounts::leg("L60c"))
+        ..in_group(0, usm_kit::accounts::leg("L60c"))
     };
     let mut holdings: Vec<Leg> = (1..=lines).map(|strike| at(random, strike)).collect();
     if random.one_in(3) {

@@ -3,8 +3,9 @@
 
 use std::fmt::Display;
 
-use usm::accounts::in_group;
-use usm::{leg_table, margin, model, Leg, OptionType, Sheet, Side};
+use usm::{leg_table, margin, Leg, OptionType, Sheet, Side};
+use usm_kit::accounts::in_group;
+use usm_kit::model;
 
 use crate::random::Random;
 use crate::{boxes, compare, laws, sheets, spreads};

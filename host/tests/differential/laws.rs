@@ -4,12 +4,12 @@
 use std::collections::{BTreeMap, BTreeSet};
 use std::fmt::Display;
 
-use usm::fields::{get, records, GROUP};
 use usm::{
     check_file, check_table, export, import, margin, move_to_new, move_to_old, play_fills, Claim, Form, Leg,
     OptionType, Origin, PlayCounts, Refusal, Sheet, Side, Style, Table, Tables, LONGEST_LIST, MOST_WORK,
     RECORD_BYTES,
 };
+use usm_kit::fields::{get, records, GROUP};
 
 use crate::files;
 use crate::fills::Day;

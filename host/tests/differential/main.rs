@@ -31,8 +31,9 @@ mod wrapper;
 
 use cases::{run, Tally};
 use tries::{try_file, try_tables};
-use usm::fields::{get, SIDE};
-use usm::{leg_table, model, Side, MOST_LEGS};
+use usm::{leg_table, Side, MOST_LEGS};
+use usm_kit::fields::{get, SIDE};
+use usm_kit::model;
 
 /// Every answer but 2, which tables cannot bring about: their files are sealed.
 const ALL_BUT_DAMAGE: [usize; 19] = [0, 1, 3, 4, 5, 6, 7, 8, 9, 10, 11, 12, 13, 14, 15, 16, 17, 20, 21];

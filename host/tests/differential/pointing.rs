@@ -1,8 +1,8 @@
 //! Groups that break 7, 8, 9, 10 or 13 on purpose (document 02, [14]), with records of other groups and unplaced
 //! ones among their legs.
 
-use usm::accounts::in_group;
 use usm::{Leg, Market, Sheet, Side, Style, MOST_LEGS};
+use usm_kit::accounts::in_group;
 
 use crate::random::Random;
 use crate::sheets;

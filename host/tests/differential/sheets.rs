@@ -1,7 +1,8 @@
 //! Sheets that document 01 accepts, of all sizes and shapes.
 
-use usm::accounts::{in_group, paid};
-use usm::{leg_table, model, Claim, Leg, Sheet, Side, MOST_CLAIMS, MOST_CONTRACTS, MOST_LEGS};
+use usm::{leg_table, Claim, Leg, Sheet, Side, MOST_CLAIMS, MOST_CONTRACTS, MOST_LEGS};
+use usm_kit::accounts::{in_group, paid};
+use usm_kit::model;
 
 use crate::random::Random;
 use crate::spreads;

@@ -1,9 +1,9 @@
 //! Buffers of every shortness, and every single damaged byte: tried one by one.
 
-use usm::accounts::{in_group, paid, placed, times};
-use usm::block::BLOCK_BYTES;
-use usm::both::BOTH;
 use usm::{Form, Origin, Refusal, Sheet, Tables};
+use usm_kit::accounts::{in_group, paid, placed, times};
+use usm_kit::block::BLOCK_BYTES;
+use usm_kit::both::BOTH;
 
 use crate::sheets::claims_of;
 use crate::{compare, files};

@@ -2,8 +2,8 @@
 
 use std::collections::BTreeSet;
 
-use usm::fields::{get, records, GROUP, STRIKE};
 use usm::{Form, Tables};
+use usm_kit::fields::{get, records, GROUP, STRIKE};
 
 use crate::cases::{Case, Tally};
 use crate::random::Random;

@@ -1,6 +1,6 @@
 //! Values past and at the ends of the ranges of a record's fields.
 
-use usm::fields::*;
+use usm_kit::fields::*;
 
 /// Values past the ranges of a leg's fields, just past or far; group 1 is so in holdings.
 pub const BAD_IN_LEGS: [(Field, u64); 32] = [

@@ -1,9 +1,8 @@
 //! Tables made of chance: bytes without sense, and worlds too small to be sensible.
 
-use usm::accounts::in_group;
-use usm::{
-    leg_table, model, Claim, Leg, Market, OptionType, Settlement, Sheet, Side, Style, Tables, RECORD_BYTES,
-};
+use usm::{leg_table, Claim, Leg, Market, OptionType, Settlement, Sheet, Side, Style, Tables, RECORD_BYTES};
+use usm_kit::accounts::in_group;
+use usm_kit::model;
 
 use crate::random::Random;
 

@@ -2,9 +2,9 @@
 
 use std::fmt::Display;
 
-use usm::block::LONGEST_FILE;
-use usm::both::{Calls, LIBRARY, MODEL};
 use usm::{Accepted, Origin, PlayCounts, RecordCounts, Refusal, Table, Tables, MOST_CLAIMS};
+use usm_kit::block::LONGEST_FILE;
+use usm_kit::both::{Calls, LIBRARY, MODEL};
 
 use crate::fills::Day;
 use crate::symbols::World;

@@ -14,15 +14,20 @@ const TOOLS: [&str; 16] = [
     "touch", "uname", "wc",
 ];
 
-pub const SOURCES: [&str; 7] = [
+/// What the tool is made of.
+pub const SOURCES: [&str; 8] = [
     "host/include/usm.h",
     "host/src/lib.rs",
     "host/src/bin/usm_sheet/main.rs",
-    "host/src/bin/other.rs",
+    "host/values/src/lib.rs",
+    "host/values/Cargo.toml",
     "host/build.rs",
     "host/Cargo.toml",
     "host/Cargo.lock",
 ];
+
+/// Sources of the host side that no tool is made of.
+pub const OTHERS: [&str; 3] = ["host/model/src/lib.rs", "host/kit/src/lib.rs", "host/tests/tool/main.rs"];
 
 /// The tool of most tests says its words, each by itself, and what it reads.
 const SAYS_ITS_WORDS: &str = "printf '<%s>' \"$@\"\ncat";
@@ -82,7 +87,7 @@ impl Door {
             door.put(&format!("crates/{name}/src/lib.rt"), "// a crate\n");
         }
         door.put("crates/records/must-fail/wrong.edit", "an edit\n");
-        for source in SOURCES {
+        for source in SOURCES.into_iter().chain(OTHERS) {
             door.put(source, "// a source\n");
         }
         for file in ["sheet", "crates.txt"] {

@@ -4,7 +4,7 @@ use std::fs;
 use std::os::unix::fs::symlink;
 use std::process::{Child, Stdio};
 
-use crate::door::{Door, SOURCES};
+use crate::door::{Door, OTHERS, SOURCES};
 use crate::scripts::told;
 
 #[test]
@@ -76,8 +76,10 @@ fn what_changed_is_made_again_and_nothing_else() {
     expect("what the library is not made of", &[]);
     for source in SOURCES {
         door.put(source, "// another source\n");
-        expect(source, if source.ends_with("other.rs") { &[] } else { &["cargo"] });
+        expect(source, &["cargo"]);
     }
+    OTHERS.into_iter().for_each(|source| door.put(source, "// another source\n"));
+    expect("model, kit and tests", &[]);
     door.put("target/staticlib/libusm_c.a", "another library\n");
     expect("the library", &["cargo"]);
     door.remove("target/staticlib/libusm_c.a");

@@ -4,7 +4,7 @@ use std::fs;
 use std::os::unix::fs::symlink;
 use std::path::Path;
 
-use usm::accounts::fullest;
+use usm_kit::accounts::fullest;
 
 use crate::door::Door;
 

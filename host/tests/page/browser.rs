@@ -4,8 +4,8 @@
 use std::fs;
 use std::path::{Path, PathBuf};
 
-use usm::accounts::{in_group, leg, placed};
 use usm::{Leg, Market, Settlement, Sheet};
+use usm_kit::accounts::{in_group, leg, placed};
 
 use crate::chromium::Chromium;
 use crate::common::folder;
@@ -57,6 +57,19 @@ const OVERFLOWS: &str = r#"
   if (texts < 10) told('texts', String(texts));
   return wrong.join('\n');
 })()
+"#;
+
+/// Words of a leg's terms that stand on two lines. Only the widest numbers leave too little room for a word.
+const PARTED: &str = r#"
+[...document.querySelectorAll('.long')].flatMap(long => {
+  const node = long.firstChild;
+  return [...node.data.matchAll(/\S+/g)].filter(word => {
+    const range = document.createRange();
+    range.setStart(node, word.index);
+    range.setEnd(node, word.index + word[0].length);
+    return range.getClientRects().length > 1;
+  }).map(word => word[0]);
+}).join(' ')
 "#;
 
 /// The lightness of the page's ground.
@@ -166,6 +179,11 @@ fn a_browser_shows_pages_whole_and_fetches_nothing() {
                 "{name}: nothing but the page itself"
             );
             assert_eq!(browser.run(OVERFLOWS), "", "{name} at {width}");
+            assert_eq!(
+                browser.run(PARTED).is_empty(),
+                (*name, width) != ("widest", 360),
+                "{name} at {width}"
+            );
             assert_eq!(browser.run(GROUND), "rgb(255, 255, 255)");
             keep(&format!("{name}-{width}"), &browser.picture());
         }

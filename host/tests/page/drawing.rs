@@ -1,7 +1,7 @@
 //! Drawings, read back from their numbers.
 
-use usm::accounts::{leg, placed, times};
 use usm::{check_file, Leg, Sheet};
+use usm_kit::accounts::{leg, placed, times};
 
 use crate::reader::{body, pieces, tags, texts, Piece, Tag};
 use crate::{page_of, sample, sample_names};

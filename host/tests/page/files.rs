@@ -3,9 +3,9 @@
 use std::fs;
 use std::path::Path;
 
-use usm::accounts::{leg, placed};
 use usm::numbers::{amount, count};
 use usm::{check_file, Leg, Sheet};
+use usm_kit::accounts::{leg, placed};
 
 use crate::common::folder;
 use crate::reader::{body, pieces, table, tables, tags, texts};

@@ -2,9 +2,9 @@
 
 use std::collections::BTreeSet;
 
-use usm::accounts::{fullest, in_group, leg, paid, placed, times};
 use usm::numbers::{amount, dollars, grouped};
 use usm::{check_file, leg_table, margin, worksheet, Accepted, Leg, Sheet, Side, Style};
+use usm_kit::accounts::{fullest, in_group, leg, paid, placed, times};
 
 use crate::reader::{body, pieces, read_aloud, table, tables, texts, Piece};
 use crate::{page_of, sample, sample_names};

@@ -1,7 +1,7 @@
 //! The page of a refused sheet: its sentence, its place, and what would have to change.
 
-use usm::accounts::{in_group, leg, placed, times};
 use usm::{check_file, sentences, Leg, Market, Refusal, Sheet, Style};
+use usm_kit::accounts::{in_group, leg, placed, times};
 
 use crate::reader::{body, pieces, table, tables, tags, texts, Piece, Table};
 use crate::{page_of, sample, sample_names};

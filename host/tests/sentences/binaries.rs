@@ -2,7 +2,7 @@
 
 use usm::{binary_margin, binary_pair, sentences, Binary, LongBinary, Refusal, Side};
 
-use crate::entry;
+use crate::entry::entry;
 
 const VALUED: u64 = 20110315;
 const GOOD: Binary = Binary { reference: 7, spread: 250, expiry: 20160620, contracts: 10 };

@@ -1,11 +1,11 @@
 //! Refusal 4: each field of a leg and of a claim out of its range.
 
-use usm::block::{renumber, RECORDS_AT};
-use usm::fields::*;
 use usm::{BLOCK_BYTES, GREATEST_AMOUNT};
+use usm_kit::block::{renumber, RECORDS_AT};
+use usm_kit::fields::*;
 
+use crate::entry::Case;
 use crate::sheets::accepted;
-use crate::Case;
 
 /// Which block of the accepted sheet holds which table.
 const HOLDINGS: usize = 0;

@@ -1,11 +1,11 @@
 //! Refusals 1 to 3: files of a wrong size, texts, and blocks that are damaged or out of form.
 
-use usm::accounts::fullest;
-use usm::block::{renumber, seal};
 use usm::{Claim, Sheet, BLOCK_BYTES};
+use usm_kit::accounts::fullest;
+use usm_kit::block::{renumber, seal};
 
+use crate::entry::Case;
 use crate::sheets::accepted;
-use crate::Case;
 
 fn file() -> Vec<u8> {
     accepted().to_file().expect("a file")

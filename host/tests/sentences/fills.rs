@@ -1,9 +1,9 @@
 //! Refusals of fills: those that are listed, and those of the holdings that they are played over.
 
-use usm::accounts::{in_group, leg, times};
 use usm::{play, sentences, Action, Fill, Leg, Refusal};
+use usm_kit::accounts::{in_group, leg, times};
 
-use crate::entry;
+use crate::entry::entry;
 
 fn held(leg: Leg) -> Leg {
     in_group(0, leg)

@@ -4,6 +4,7 @@
 #![forbid(unsafe_code)]
 
 mod binaries;
+mod entry;
 mod fields;
 mod files;
 mod fills;
@@ -13,20 +14,14 @@ mod symbols;
 
 use std::collections::BTreeSet;
 use std::fs;
-use std::path::Path;
 
 use usm::{
     check_file, move_to_new, move_to_old, sentences, Form, Origin, Reason, Refusal, Sheet, BLOCK_BYTES,
     LONGEST_FILE,
 };
 
-/// A name for what is wrong, and a file in which it is.
-type Case = (String, Vec<u8>);
-
-/// Two lines: what is asked, and the sentence below it.
-fn entry(name: &str, refusal: &Refusal, sentence: &str) -> String {
-    format!("{name}: {}  {sentence}\n", refusal.line())
-}
+use entry::{entry, Case};
+use usm_kit::repository;
 
 /// The sentences of refusals by themselves, at places that count from 0 and groups that count from 1.
 fn short() -> String {
@@ -133,7 +128,7 @@ fn every_sentence_is_that_of_the_table() {
     let of_calls = [of_groups(), of_cash(), of_moves()].concat();
     let of_others = [fills::sentences(), symbols::sentences(), salvage::sentences(), binaries::sentences()];
     let found = [short(), of_files(&cases()), of_calls, of_others.join("\n")].join("\n");
-    let table = Path::new(env!("CARGO_MANIFEST_DIR")).join("tests/sentences/sentences.txt");
+    let table = repository().join("host/tests/sentences/sentences.txt");
     if std::env::var_os("USM_WRITE_SENTENCES").is_some() {
         fs::write(&table, &found).expect("the table is written");
     }

@@ -1,10 +1,10 @@
 //! What is said of blocks that were dropped, of what is left out, and of files that cannot be salvaged.
 
-use usm::accounts::fullest;
-use usm::block::{seal, BLOCK_BYTES, LONGEST_FILE};
 use usm::{salvage_file, sentences, Claim, Dropped, Reason, Refusal, Sheet};
+use usm_kit::accounts::fullest;
+use usm_kit::block::{seal, BLOCK_BYTES, LONGEST_FILE};
 
-use crate::entry;
+use crate::entry::entry;
 use crate::sheets::accepted;
 
 fn file(account: u64) -> Vec<u8> {

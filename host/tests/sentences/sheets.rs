@@ -1,9 +1,9 @@
 //! Refusals 5 to 16: groups that are no spreads, and sheets that break a rule.
 
-use usm::accounts::{in_group, leg, paid, placed, times};
 use usm::{Claim, Leg, Market, Settlement, Sheet, Style};
+use usm_kit::accounts::{in_group, leg, paid, placed, times};
 
-use crate::Case;
+use crate::entry::Case;
 
 /// P4's legs in two groups: three blocks, all accepted.
 pub fn accepted() -> Sheet {

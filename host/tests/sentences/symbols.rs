@@ -1,10 +1,10 @@
 //! Refusals of lists, of holdings to be listed, and of roots.
 
-use usm::accounts::{in_group, leg};
 use usm::text::parse_roots;
 use usm::{holdings_of_list, list_of_holdings, sentences, Leg, Refusal, Root, Settlement};
+use usm_kit::accounts::{in_group, leg};
 
-use crate::entry;
+use crate::entry::entry;
 
 fn roots(text: &str) -> Vec<Root> {
     parse_roots(text).expect("roots")

@@ -48,7 +48,7 @@ fn the_pages_are_whole() {
     let told = page("man1/sheet.1").replace("\\-", "-").replace("\\&", "").replace("\\e", "\\");
     assert!(told.contains(&help), "the page of the tool has its help");
     let header = fs::read_to_string(prefix.join("include/usm.h")).expect("the header");
-    let calls = header.lines().filter_map(|line| line.split('(').next()?.strip_prefix("void "));
+    let calls = header.lines().filter_map(|line| line.split('(').next()?.strip_prefix("uint64_t "));
     for call in calls.chain(["usm_file_line", "usm_file_table"]) {
         assert!(page("man3/usm.3").contains(call), "usm(3) names {call}");
     }

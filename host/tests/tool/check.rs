@@ -4,7 +4,7 @@ use std::fs;
 use std::fs::OpenOptions;
 use std::process::Stdio;
 
-use usm::accounts::{leg, placed};
+use usm_kit::accounts::{leg, placed};
 
 use crate::{common, folder, run, told, VERTICAL};
 

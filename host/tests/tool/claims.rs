@@ -2,8 +2,8 @@
 
 use std::fs;
 
-use usm::accounts::{in_group, leg, paid, placed, times};
 use usm::{text, Claim, Sheet};
+use usm_kit::accounts::{in_group, leg, paid, placed, times};
 
 use crate::{folder, names_in, run, told, VERTICAL};
 

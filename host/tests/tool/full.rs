@@ -1,7 +1,7 @@
 //! A full sheet (256/256/32), and texts as long as they may be.
 
-use usm::accounts::{leg, placed};
 use usm::{text, Leg, Sheet};
+use usm_kit::accounts::{leg, placed};
 
 use crate::{folder, run, told, VERTICAL};
 

@@ -1,7 +1,7 @@
 //! `margins` and `worksheet`.
 
-use usm::accounts::{in_group, leg, placed, times};
 use usm::{Leg, Settlement, Style};
+use usm_kit::accounts::{in_group, leg, placed, times};
 
 use crate::{folder, run, told};
 

@@ -3,8 +3,8 @@
 use std::fs;
 use std::path::Path;
 
-use usm::accounts::{in_group, leg, paid, placed};
 use usm::{Leg, Sheet};
+use usm_kit::accounts::{in_group, leg, paid, placed};
 
 use crate::{folder, names_in, run, told};
 

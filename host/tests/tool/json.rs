@@ -5,9 +5,9 @@ use std::fs;
 use std::os::unix::ffi::OsStrExt;
 use std::path::Path;
 
-use usm::accounts::{in_group, leg, placed};
-use usm::block::BLOCK_BYTES;
 use usm::{Leg, Sheet};
+use usm_kit::accounts::{in_group, leg, placed};
+use usm_kit::block::BLOCK_BYTES;
 
 use crate::{folder, run, run_named, told, VERTICAL};
 

@@ -91,6 +91,29 @@ fn a_link_stays_and_what_it_leads_to_is_replaced() {
 }
 
 #[test]
+fn a_file_of_another_kind_is_told_as_the_check_tells_it() {
+    let folder = folder("tool-other-kind");
+    for (bytes, kind) in [
+        (&b"\x1F\x8B\x08\x00"[..], "a file packed by gzip, which has to be unpacked first (`gunzip`)"),
+        (b"%PDF-1.4\nholdings\n", "a PDF document"),
+        (b"\xFF\xFEh\x00", "text in UTF-16, which has to be saved as UTF-8"),
+    ] {
+        fs::write(folder.join("other"), bytes).expect("a file");
+        let message = format!("sheet: other: expected text in UTF-8, and this looks like {kind}\n");
+        for words in [&["make", "other", "out.usm"][..], &["play", "other", "-", "out.txt"]] {
+            assert_eq!(told(run(&folder, words, b"fills\n")), (2, String::new(), message.clone()));
+        }
+        let (status, _, sentence) = told(run(&folder, &["check", "other"], b""));
+        assert_eq!(
+            (status, sentence.ends_with(&format!("; it looks like {kind}\n"))),
+            (1, true),
+            "{sentence}"
+        );
+    }
+    assert_eq!(names_in(&folder), ["other"]);
+}
+
+#[test]
 fn bad_text_is_told_with_file_line_and_column_and_makes_nothing() {
     let folder = folder("tool-bad");
     fs::write(folder.join("bad.txt"), VERTICAL.replace("group 1 short 1 call", "group 1 short 1 cal"))

@@ -2,9 +2,9 @@
 
 use std::fs;
 
-use usm::accounts::{leg, placed};
-use usm::block::{seal, BLOCK_BYTES};
 use usm::{Leg, Sheet};
+use usm_kit::accounts::{leg, placed};
+use usm_kit::block::{seal, BLOCK_BYTES};
 
 use crate::{folder, names_in, run, told};
 
@@ -19,9 +19,9 @@ fn file() -> Vec<u8> {
     sheet().to_file().expect("a file")
 }
 
-/// Standard error of a salvage that ends so, and what it wrote.
-fn salvaged(bytes: &[u8], status: i32) -> (Vec<u8>, String) {
-    let output = run(&folder("tool-salvage-piped"), &["salvage", "-", "-"], bytes);
+/// Standard error of a salvage that ends so, and what it wrote; `name` is the test's own.
+fn salvaged(name: &str, bytes: &[u8], status: i32) -> (Vec<u8>, String) {
+    let output = run(&folder(name), &["salvage", "-", "-"], bytes);
     assert_eq!(output.status.code(), Some(status));
     (output.stdout, String::from_utf8(output.stderr).expect("UTF-8"))
 }
@@ -56,12 +56,12 @@ fn a_file_that_lost_nothing_is_0() {
     let accepted = "-: a salvaged sheet is not accepted by that; its verdict: ACCEPT 1 10000000\n\
                     -: account 4711 (new form): accepted: 1 group, total margin $10,000.000 (10000000 mills)\n";
     let as_it_was = format!("-: nothing was dropped; the file comes out as it was\n{accepted}");
-    assert_eq!(salvaged(&file(), 0), (file(), as_it_was));
+    assert_eq!(salvaged("tool-salvage-whole", &file(), 0), (file(), as_it_was));
     // Claims at the head, as a tool may have put them.
     let mut turned = file();
     turned.rotate_right(BLOCK_BYTES);
     let anew = format!("-: nothing was dropped; its blocks stand and are numbered anew\n{accepted}");
-    assert_eq!(salvaged(&turned, 0), (file(), anew));
+    assert_eq!(salvaged("tool-salvage-turned", &turned, 0), (file(), anew));
 }
 
 #[test]
@@ -87,7 +87,7 @@ fn every_reason_is_told_and_what_is_left_out_is_counted() {
 -: 5 of 7 blocks dropped, 2 kept
 "
     );
-    let (out, sentences) = salvaged(&damaged, 1);
+    let (out, sentences) = salvaged("tool-salvage-damaged", &damaged, 1);
     assert!(sentences.starts_with(&expected), "{sentences}");
     let left = Sheet { holdings: sheet().holdings[..15].to_vec(), placement: vec![], ..sheet() };
     assert_eq!(out, left.to_file().expect("a file"));

@@ -1,9 +1,9 @@
 //! The calls that the transcript's questions make, and what is said of each answer.
 
-use usm::both::Calls;
-use usm::fields::{get, put, records, CONTRACTS, PAID, SIDE, STRIKE, TYPE};
-use usm::lent::Lent;
 use usm::{Form, Origin, PlayCounts, Refusal, Table, LONGEST_FILE, RECORD_BYTES};
+use usm_kit::both::Calls;
+use usm_kit::fields::{get, put, records, CONTRACTS, PAID, SIDE, STRIKE, TYPE};
+use usm_kit::lent::Lent;
 
 use crate::memory::Memory;
 

@@ -2,11 +2,11 @@
 //! each its line and its table. Both files of the program are held to that text.
 
 use std::fs;
-use std::path::Path;
 
-use usm::both::BOTH;
+use usm_kit::both::BOTH;
 
 use crate::{common, folder, played};
+use usm_kit::repository;
 
 /// The files that `bench.txt` asks about, and what is printed of them.
 fn expected() -> (Vec<u8>, String) {
@@ -34,7 +34,7 @@ fn the_program_reads_and_prints_what_the_transcript_has() {
     for (name, bytes) in files {
         fs::write(made.join(name), bytes).expect("a file of the test");
     }
-    let committed = Path::new(env!("CARGO_MANIFEST_DIR")).join("../crates/bench");
+    let committed = repository().join("crates/bench");
     for (name, bytes) in files {
         assert!(
             fs::read(committed.join(name)).expect(name) == bytes,

@@ -12,13 +12,14 @@ mod notation;
 mod play;
 
 use std::fs;
-use std::path::{Path, PathBuf};
+use std::path::PathBuf;
 
 use play::{play, Played, BEGINS};
-use usm::both::{Calls, LIBRARY, MODEL};
+use usm_kit::both::{Calls, LIBRARY, MODEL};
+use usm_kit::repository;
 
 fn folder() -> PathBuf {
-    Path::new(env!("CARGO_MANIFEST_DIR")).join("tests/transcript")
+    repository().join("host/tests/transcript")
 }
 
 /// The names of the transcript's texts, and the texts.

@@ -2,9 +2,9 @@
 
 use std::str::FromStr;
 
-use usm::block::{seal, BLOCK_BYTES};
-use usm::fields::*;
 use usm::{Table, RECORD_BYTES};
+use usm_kit::block::{seal, BLOCK_BYTES};
+use usm_kit::fields::*;
 
 use crate::notation::{legs, set};
 

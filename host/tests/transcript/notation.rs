@@ -1,8 +1,8 @@
 //! Records as the transcript writes them: legs in the notation of document 01's "Accounts on the bench".
 
-use usm::accounts::{in_group, leg};
-use usm::fields::*;
 use usm::leg_table;
+use usm_kit::accounts::{in_group, leg};
+use usm_kit::fields::*;
 
 /// A field of a record and the number that is put there.
 pub type Setting = (Field, u64);

@@ -1,7 +1,7 @@
 //! The transcript's language, which README.md beside this file tells of: a case by its name, and under it
 //! commands, a question last in its line and its answer behind it.
 
-use usm::both::Calls;
+use usm_kit::both::Calls;
 
 use crate::answers;
 use crate::memory::{number, table_named, Memory};

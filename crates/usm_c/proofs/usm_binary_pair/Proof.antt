@@ -9,7 +9,9 @@ required-words-requires : tie.Need-required-words-requires
 required-words-requires c κs = rw (c .pair-as .ensures) (pair-mills _ _ _ _)
 
 returns : tie.Need-returns
-returns c = c .required-words .ensures ∙ ap requiredWords (c .before .pair-as .ensures)
+returns c =
+    let w = c .before .before in
+    (c .tell .ensures .0, c .tell .ensures .1 ∙ w .required-words .ensures ∙ ap requiredWords (w .before .pair-as .ensures))
 
 pub usm-binary-pair-spec : {M : Type 1} → statement M
-usm-binary-pair-spec = tie.close (tie.spec (λ c κs. search needs) required-words-requires returns)
+usm-binary-pair-spec = tie.close (tie.spec (λ c κs. search needs) required-words-requires (λ c κs. search needs) returns)

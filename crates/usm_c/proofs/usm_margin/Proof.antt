@@ -9,7 +9,9 @@ due-words-requires : tie.Need-due-words-requires
 due-words-requires c κs = rw (c .margin .ensures) (margin-mills _ _)
 
 returns : tie.Need-returns
-returns c = c .due-words .ensures ∙ ap dueWords (c .before .margin .ensures)
+returns c =
+    let w = c .before .before in
+    (c .tell .ensures .0, c .tell .ensures .1 ∙ w .due-words .ensures ∙ ap dueWords (w .before .margin .ensures))
 
 pub usm-margin-spec : {M : Type 1} → statement M
-usm-margin-spec = tie.close (tie.spec (λ c κs. search needs) due-words-requires returns)
+usm-margin-spec = tie.close (tie.spec (λ c κs. search needs) due-words-requires (λ c κs. search needs) returns)

@@ -3,8 +3,9 @@
 use std::ffi::{OsStr, OsString};
 use std::os::unix::ffi::OsStrExt;
 
-use usm::program::shown;
 use usm::text::digits;
+
+use crate::program::shown;
 
 /// Every option that is a word by itself; which of them a command takes, its usage tells.
 const OPTIONS: [&str; 6] = ["--force", "--holdings", "--json", "--quiet", "--table", "--work"];

@@ -7,11 +7,12 @@ use std::process::ExitCode;
 
 use usm::numbers::{count, dollars};
 use usm::{
-    binary_cell, binary_margin, binary_pair, program, sentences, Binary, Cell, LongBinary, Refusal, Side,
-    SPREADS, TIMES,
+    binary_cell, binary_margin, binary_pair, sentences, Binary, Cell, LongBinary, Refusal, Side, SPREADS,
+    TIMES,
 };
 
 use crate::output::print;
+use crate::program;
 use crate::words::Words;
 
 /// What a contract settles at, in mills.

@@ -4,7 +4,6 @@ use std::ffi::{OsStr, OsString};
 use std::process::ExitCode;
 
 use usm::numbers::{amount, count, grouped};
-use usm::program::shown;
 use usm::LONGEST_FILE;
 
 use crate::files::{are_named, asked, Asked};
@@ -12,6 +11,7 @@ use crate::found::{Found, Judged};
 use crate::input::read_into;
 use crate::json::Object;
 use crate::output::Output;
+use crate::program::shown;
 
 /// How the verdicts are told.
 pub struct Telling {
@@ -21,6 +21,12 @@ pub struct Telling {
     pub work: bool,
     /// Nothing of files that are accepted.
     pub quiet: bool,
+}
+
+impl Telling {
+    fn shows(&self, found: &Found) -> bool {
+        !self.quiet || !matches!(found, Found::Accepted(_))
+    }
 }
 
 /// How many files were accepted, refused and not read.
@@ -43,7 +49,9 @@ pub fn check(names: &[OsString], lists: &[OsString], telling: &Telling) -> Resul
     for asked in &asked {
         let (name, found) = judge(&mut file, asked);
         tally.count(&found);
-        report(&mut output, name, several, &Judged::of(found, &file), telling)?;
+        if telling.shows(&found) {
+            report(&mut output, name, several, &Judged::of(found, &file), telling)?;
+        }
     }
     if several {
         let total = format!("; total margin of all accepted {}", amount(tally.total));
@@ -75,7 +83,6 @@ fn report(
 ) -> Result<(), String> {
     let found = &judged.found;
     match found {
-        Found::Accepted(_) if telling.quiet => return Ok(()),
         _ if telling.json => {
             let object = Object::of(name).origin(judged.origin).verdict(judged);
             output.print(object.line().as_bytes())?;

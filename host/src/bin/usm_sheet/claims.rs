@@ -4,13 +4,13 @@ use std::ffi::OsStr;
 use std::process::ExitCode;
 
 use usm::numbers::{amount, count};
-use usm::program::{self, shown};
 use usm::{Claim, Refusal, Sheet};
 
 use crate::groups::no_spread;
 use crate::input::{sheet_and_kind, Kind};
 use crate::inputs::not_over_itself;
 use crate::make::{made, stays_text, write};
+use crate::program::{self, shown};
 
 /// Writes the sheet with each group's margin as its claim, and tells what changed. Where a group has no margin
 /// nothing is written, and it is told why.

@@ -6,10 +6,10 @@ use std::io;
 use std::os::unix::ffi::OsStrExt;
 use std::path::{Path, PathBuf};
 
-use usm::program::shown;
 use usm::Form;
 
 use crate::input::{is_sheet_file, read_into};
+use crate::program::shown;
 
 /// Longer lists are none: a path has at most 4,096 bytes, and so there is room for 16,384 of the longest.
 const LONGEST_NAMES: usize = 1 << 26;

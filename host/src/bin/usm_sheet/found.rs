@@ -1,7 +1,10 @@
 //! What became of one sheet file: its verdict, and whose it is.
 
 use usm::numbers::{amount, count};
-use usm::{check_file, leg_table, margins, sentences, Accepted, Form, Origin, Refusal, Sheet};
+use usm::{
+    check_file, leg_table, margins, read_file, sentences, Accepted, Form, Origin, Refusal, Sheet,
+    MOST_CLAIMS, MOST_LEGS, RECORD_BYTES,
+};
 
 pub enum Found {
     Accepted(Accepted),
@@ -49,27 +52,23 @@ impl Found {
     }
 }
 
-/// A verdict, and what the reader answers about the file.
-pub struct Judged {
+/// A verdict, and whose it is.
+pub struct Judged<'a> {
     pub found: Found,
     /// Form and account, where the reader takes the file.
     pub origin: Option<Origin>,
-    /// Of an accepted sheet the margins of groups 1, 2 and so on.
-    pub margins: Option<Vec<i64>>,
+    /// The bytes that it is about.
+    file: &'a [u8],
 }
 
-impl Judged {
+impl Judged<'_> {
     /// What was found of a file with these bytes; of one that was not read there are none.
-    pub fn of(found: Found, file: &[u8]) -> Judged {
-        let read = match found {
+    pub fn of(found: Found, file: &[u8]) -> Judged<'_> {
+        let origin = match found {
             Found::Unread(_) => None,
-            _ => Sheet::with_origin(file).ok(),
+            _ => origin_of(file),
         };
-        let margins = match (&found, &read) {
-            (Found::Accepted(accepted), Some((sheet, _))) => Some(group_margins(sheet, accepted.groups)),
-            _ => None,
-        };
-        Judged { found, origin: read.map(|(_, origin)| origin), margins }
+        Judged { found, origin, file }
     }
 
     /// The sentence behind whose verdict it is.
@@ -81,11 +80,24 @@ impl Judged {
         };
         format!("{whose}{}", self.found.sentence())
     }
+
+    /// Of an accepted sheet the margins of groups 1, 2 and so on.
+    pub fn margins(&self) -> Option<Vec<i64>> {
+        let groups = match self.found {
+            Found::Accepted(Accepted { groups, .. }) => groups,
+            _ => return None,
+        };
+        let sheet = Sheet::from_file(self.file).expect("the file of an accepted sheet");
+        let mut of_groups = vec![0; groups as usize];
+        margins(&leg_table(&sheet.placement), groups, &mut of_groups).expect("groups of an accepted sheet");
+        Some(of_groups)
+    }
 }
 
-/// The margins of the groups of an accepted sheet.
-fn group_margins(sheet: &Sheet, groups: u64) -> Vec<i64> {
-    let mut of_groups = vec![0; groups as usize];
-    margins(&leg_table(&sheet.placement), groups, &mut of_groups).expect("groups of an accepted sheet");
-    of_groups
+/// Where a file comes from, as the reader answers it; its records are not looked at.
+fn origin_of(file: &[u8]) -> Option<Origin> {
+    const MOST: usize = MOST_LEGS * RECORD_BYTES;
+    let (mut holdings, mut placement, mut claims) = ([0; MOST], [0; MOST], [0; MOST_CLAIMS * RECORD_BYTES]);
+    let (_, origin) = read_file(file, &mut holdings, &mut placement, &mut claims).ok()?;
+    Some(origin)
 }

@@ -5,7 +5,6 @@ use std::ffi::OsStr;
 use std::process::ExitCode;
 
 use usm::numbers::dollars;
-use usm::program::{self, shown};
 use usm::{sentences, Reason, Refusal, Sheet};
 
 use crate::arguments::number_of;
@@ -13,6 +12,7 @@ use crate::input::sheet_with_origin;
 use crate::json::{refused, Object};
 use crate::output::print;
 use crate::plot;
+use crate::program::{self, shown};
 
 /// An amount that a group has.
 struct Asked {

@@ -6,9 +6,10 @@ use std::fs::File;
 use std::io::{self, Read};
 use std::path::Path;
 
-use usm::program::{not_empty, shown, Stream};
 use usm::text::Errors;
 use usm::{csv, sentences, text, Fill, Form, Origin, Sheet, LONGEST_FILE};
+
+use crate::program::{not_empty, shown, Stream};
 
 /// More than any sheet's text needs; it keeps a wrong file from filling the memory.
 const LONGEST_TEXT: usize = 1 << 20;
@@ -131,6 +132,9 @@ fn text_in(name: &OsStr, bytes: Vec<u8>) -> Result<String, String> {
             "{}: is a sheet file, and a text is expected; `sheet show FILE` prints its text",
             shown(name)
         ));
+    }
+    if let Some(kind) = sentences::other_kind(&bytes) {
+        return Err(format!("{}: expected text in UTF-8, and this looks like {kind}", shown(name)));
     }
     String::from_utf8(bytes).map_err(|error| {
         let good = &error.as_bytes()[..error.utf8_error().valid_up_to()];

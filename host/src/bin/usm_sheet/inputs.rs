@@ -3,8 +3,9 @@
 use std::ffi::OsStr;
 use std::fs;
 
-use usm::program::{self, shown};
 use usm::Sheet;
+
+use crate::program::{self, shown};
 
 /// An input is no place for what is made of it.
 pub fn not_over_itself(name: &OsStr, out_name: &OsStr) -> Result<(), String> {

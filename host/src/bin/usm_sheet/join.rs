@@ -4,7 +4,6 @@ use std::ffi::{OsStr, OsString};
 use std::process::ExitCode;
 
 use usm::numbers::amount;
-use usm::program::{self, shown};
 use usm::{sentences, Sheet};
 
 use crate::arguments::number_of;
@@ -12,6 +11,7 @@ use crate::groups::no_spread;
 use crate::input::sheet;
 use crate::inputs::not_over_itself;
 use crate::make::{file_of, write};
+use crate::program::{self, shown};
 
 /// Writes the sheet with the two groups in one, and tells what it needs then; form, account and holdings stay.
 pub fn join(name: &OsStr, groups: [&OsString; 2], out_name: &OsStr, force: bool) -> Result<ExitCode, String> {

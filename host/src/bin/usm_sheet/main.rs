@@ -1,7 +1,7 @@
 //! Makes sheet files from readable text, prints them back, checks them, and tells their margins.
 //! The script `sheet` at the root of the repository builds and starts it.
 
-#![forbid(unsafe_code)]
+#![deny(unsafe_code)]
 
 mod arguments;
 mod binaries;
@@ -22,6 +22,7 @@ mod page;
 mod paid;
 mod play;
 mod plot;
+mod program;
 mod salvage;
 mod symbols;
 mod tables;
@@ -34,7 +35,6 @@ use std::process::ExitCode;
 
 use arguments::Arguments;
 use output::print;
-use usm::program;
 
 fn main() -> ExitCode {
     program::run("sheet", run)

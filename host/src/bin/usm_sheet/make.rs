@@ -3,12 +3,12 @@
 use std::ffi::OsStr;
 use std::process::ExitCode;
 
-use usm::program::{self, shown};
 use usm::{csv, sentences, text, Leg, Sheet};
 
 use crate::input::{csv_table, holdings_in, is_csv, is_sheet_file, sheet, Kind};
 use crate::inputs::{not_over_itself, two_inputs};
 use crate::output::Output;
+use crate::program::{self, shown};
 use crate::warnings::tell_of_small;
 
 pub fn make(text_name: &OsStr, out_name: &OsStr, force: bool) -> Result<ExitCode, String> {

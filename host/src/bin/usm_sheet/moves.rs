@@ -3,13 +3,13 @@
 use std::ffi::OsStr;
 use std::process::ExitCode;
 
-use usm::program::shown;
 use usm::{move_to_new, move_to_old, sentences, Form, Origin, LONGEST_FILE};
 
 use crate::arguments::number_of;
 use crate::input::read_into;
 use crate::inputs::not_over_itself;
 use crate::make::write;
+use crate::program::shown;
 
 /// To the new form, with an account.
 pub fn to_new(name: &OsStr, account: &OsStr, out_name: &OsStr, force: bool) -> Result<ExitCode, String> {

@@ -3,7 +3,7 @@
 use std::io::{self, BufWriter, Write};
 use std::process::ExitCode;
 
-use usm::program::{self, Stream};
+use crate::program::{self, Stream};
 
 pub struct Output {
     out: BufWriter<Stream>,

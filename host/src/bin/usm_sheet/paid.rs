@@ -4,12 +4,12 @@ use std::ffi::OsStr;
 use std::process::ExitCode;
 
 use usm::numbers::grouped;
-use usm::program::{self, shown};
 use usm::sentences;
 
 use crate::input::sheet;
 use crate::inputs::not_over_itself;
 use crate::make::write;
+use crate::program::{self, shown};
 
 /// Marks every unplaced long as paid; form, account and all else stay.
 pub fn mark_paid(name: &OsStr, out_name: &OsStr, force: bool) -> Result<ExitCode, String> {

@@ -4,7 +4,6 @@ use std::ffi::OsStr;
 use std::process::ExitCode;
 
 use usm::numbers::{count, grouped};
-use usm::program::{self, shown};
 use usm::{play as play_over, sentences, Fill, Played, Refusal, Sheet};
 
 use crate::input::{fills_in, holdings_in, is_csv};
@@ -12,6 +11,7 @@ use crate::inputs::{not_beside_json, tell_account_left_out, tell_left_out, two_i
 use crate::json::{refused, Object};
 use crate::make::{made_holdings, write};
 use crate::output::print;
+use crate::program::{self, shown};
 
 /// The names of what is read and written.
 pub struct Names<'a> {

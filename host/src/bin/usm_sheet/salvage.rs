@@ -3,7 +3,6 @@
 use std::ffi::OsStr;
 use std::process::ExitCode;
 
-use usm::program::{self, shown};
 use usm::{salvage_file, sentences, Salvaged, BLOCK_BYTES, LONGEST_FILE};
 
 use crate::found::{Found, Judged};
@@ -12,6 +11,7 @@ use crate::inputs::{not_beside_json, not_over_itself};
 use crate::json::Object;
 use crate::make::write;
 use crate::output::print;
+use crate::program::{self, shown};
 
 /// Writes the sound file, and tells what was dropped, how many records that leaves out, and the verdict on the rest.
 pub fn salvage(name: &OsStr, out_name: &OsStr, force: bool, json: bool) -> Result<ExitCode, String> {

@@ -5,7 +5,6 @@ use std::fmt::{self, Display, Formatter};
 use std::process::ExitCode;
 
 use usm::numbers::{count, grouped};
-use usm::program::{self, shown};
 use usm::text::{self, Errors};
 use usm::{
     holdings_of_list, list_of_holdings, sentences, Leg, Refusal, Root, LIST_TABLE, LONGEST_LIST, MOST_LINES,
@@ -17,6 +16,7 @@ use crate::inputs::{not_beside_json, tell_left_out, two_inputs};
 use crate::json::{self, Object};
 use crate::make::{made_holdings, write};
 use crate::output::print;
+use crate::program::{self, shown};
 
 /// What is longer is no list; every line of it would be judged by itself.
 const LONGEST_INPUT: usize = 8 * LONGEST_LIST;

@@ -3,8 +3,9 @@
 use std::ffi::OsStr;
 
 use usm::numbers::{amount, count, dollars};
-use usm::program::{self, shown};
 use usm::{Claim, Sheet};
+
+use crate::program::{self, shown};
 
 const MILLS_IN_DOLLAR: i64 = 1_000;
 

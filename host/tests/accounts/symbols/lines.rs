@@ -1,8 +1,8 @@
 //! A list's lines: what is malformed (22), out of range (4), and of no root (24).
 
-use usm::accounts::{leg, root, times};
-use usm::both::BOTH;
 use usm::{root_table, Leg, Root};
+use usm_kit::accounts::{leg, root, times};
+use usm_kit::both::BOTH;
 
 use super::{assert_list, assert_no_list, held, import};
 use crate::refusal;

@@ -4,9 +4,9 @@ mod lines;
 mod records;
 mod roots;
 
-use usm::accounts::{in_group, leg, root, times};
-use usm::both::{Calls, BOTH};
 use usm::{leg_table, root_table, Leg, Market, Refusal, Root, Settlement, Style, RECORD_BYTES};
+use usm_kit::accounts::{in_group, leg, root, times};
+use usm_kit::both::{Calls, BOTH};
 
 use crate::refusal;
 

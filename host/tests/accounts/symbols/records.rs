@@ -1,12 +1,12 @@
 //! Records that are written as lines: sizes (1), fields (4) and terms (24).
 
-use usm::accounts::{leg, root, times};
-use usm::both::BOTH;
-use usm::fields::{
+use usm::{leg_table, root_table, Leg, Market, Settlement, Style};
+use usm_kit::accounts::{leg, root, times};
+use usm_kit::both::BOTH;
+use usm_kit::fields::{
     put, CONTRACTS, EXPIRY, FILLER, GROUP, MARKET, PAID, SETTLEMENT, SIDE, STRIKE, STYLE, TYPE, UNDERLYING,
     UNIT_SIZE,
 };
-use usm::{leg_table, root_table, Leg, Market, Settlement, Style};
 
 use super::{assert_no_holdings, export, held, three_roots};
 use crate::refusal;

@@ -1,7 +1,7 @@
 //! The table of roots, which is looked at first (23).
 
-use usm::accounts::root;
 use usm::{root_table, Market, Root, Settlement, Style, ROOT_BYTES};
+use usm_kit::accounts::root;
 
 use super::{assert_list, assert_no_holdings, assert_no_list, three_roots};
 

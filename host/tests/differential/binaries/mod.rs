@@ -5,8 +5,9 @@ pub mod laws;
 
 use std::fmt::Display;
 
-use usm::both::{Calls, LIBRARY, MODEL};
-use usm::{ffi, model, Binary, LongBinary, Refusal, Side};
+use usm::{ffi, Binary, LongBinary, Refusal, Side};
+use usm_kit::both::{Calls, LIBRARY, MODEL};
+use usm_kit::model;
 
 use crate::compare::{answer_of, numbers, same};
 use crate::random::Random;
@@ -132,7 +133,7 @@ pub fn pair(case: &dyn Display, given: &Numbers) -> u64 {
     let answer = answer_of(|answer| {
         let bought = [long.reference, long.spread, long.expiry, long.contracts, paid];
         let written = [short.reference, short.spread, short.expiry, short.contracts];
-        ffi::binary_pair(valuation, bought, written, answer);
+        ffi::binary_pair(valuation, bought, written, answer)
     });
     let expected = match paid_of(paid) {
         Some(paid) => model::binary_pair(valuation, LongBinary { binary: long, paid }, short),

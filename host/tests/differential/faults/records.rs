@@ -1,7 +1,7 @@
 //! Faults of tables and records by themselves, whatever the rules say: sizes, ranges, places.
 
-use usm::fields::*;
 use usm::{Claim, Tables, MOST_CLAIMS, MOST_LEGS, RECORD_BYTES};
+use usm_kit::fields::*;
 
 use crate::random::Random;
 use crate::values::{AT_THE_LIMIT, BAD_IN_CLAIMS, BAD_IN_LEGS};

@@ -1,8 +1,8 @@
 //! Faults that the rules of a spread or of a sheet find: each field stays in its range.
 
-use usm::accounts::{in_group, leg, paid};
-use usm::fields::*;
 use usm::{Claim, Tables, GREATEST_AMOUNT, RECORD_BYTES};
+use usm_kit::accounts::{in_group, leg, paid};
+use usm_kit::fields::*;
 
 use crate::random::Random;
 

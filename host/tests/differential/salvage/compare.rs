@@ -2,9 +2,10 @@
 
 use std::fmt::Display;
 
-use usm::both::{Calls, LIBRARY, MODEL};
-use usm::lent::Lent;
-use usm::{ffi, model, Refusal, SalvageCounts, BLOCK_BYTES};
+use usm::{ffi, Refusal, SalvageCounts, BLOCK_BYTES};
+use usm_kit::both::{Calls, LIBRARY, MODEL};
+use usm_kit::lent::Lent;
+use usm_kit::model;
 
 use crate::compare::{answer_of, numbers, same, same_buffer};
 

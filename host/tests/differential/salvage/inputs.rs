@@ -1,8 +1,8 @@
 //! Files to be salvaged.
 
-use usm::accounts::{in_group, leg, placed};
-use usm::block::{seal, BLOCK_BYTES};
 use usm::{Claim, Leg, Origin, Sheet, Tables};
+use usm_kit::accounts::{in_group, leg, placed};
+use usm_kit::block::{seal, BLOCK_BYTES};
 
 use crate::random::Random;
 use crate::{faults, files, sheets};

@@ -2,8 +2,8 @@
 
 use std::fmt::Display;
 
-use usm::block::{account_of, RECORDS_AT};
 use usm::{salvage_file, Form, Origin, Reason, Salvaged, Sheet, Table, BLOCK_BYTES, RECORD_BYTES};
+use usm_kit::block::{account_of, RECORDS_AT};
 
 /// A file that is not damaged comes out the same, with an empty list.
 pub fn undamaged_stays(case: &dyn Display, file: &[u8]) {

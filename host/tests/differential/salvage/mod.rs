@@ -8,8 +8,8 @@ mod whole_file;
 
 use compare::{listed, salvage, salvage_into, wrapper, Found, Rooms};
 use inputs::{any, changed, files_of_four_blocks};
-use usm::block::{ACCOUNT_AT, ACCOUNT_END, RECORDS_AT};
 use usm::{Refusal, BLOCK_BYTES};
+use usm_kit::block::{ACCOUNT_AT, ACCOUNT_END, RECORDS_AT};
 
 use crate::cases::run;
 use crate::{files, sheets};

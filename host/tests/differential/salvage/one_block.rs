@@ -1,7 +1,7 @@
 //! One block damaged, in every way.
 
-use usm::block::{seal, ACCOUNT_AT, ACCOUNT_END, BLOCK_BYTES, RECORDS_AT};
-use usm::fields::{put, GROUP};
+use usm_kit::block::{seal, ACCOUNT_AT, ACCOUNT_END, BLOCK_BYTES, RECORDS_AT};
+use usm_kit::fields::{put, GROUP};
 
 use super::compare::listed;
 use super::inputs::{block, changed, files_of_four_blocks};

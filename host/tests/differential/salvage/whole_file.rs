@@ -1,8 +1,8 @@
 //! Blocks joined, in any order, torn, too many; and rooms that are too short.
 
-use usm::accounts::fullest;
-use usm::block::{BLOCK_BYTES, LONGEST_FILE, RECORDS_AT};
 use usm::{Refusal, Sheet, RECORD_BYTES};
+use usm_kit::accounts::fullest;
+use usm_kit::block::{BLOCK_BYTES, LONGEST_FILE, RECORDS_AT};
 
 use super::compare::{listed, salvage, salvage_into, Found, Rooms};
 use super::inputs::{changed, files_of_four_blocks, four_blocks, origins};

@@ -1,7 +1,7 @@
 //! What can be wrong with a world: one character, one field, one root, one record.
 
-use usm::fields::{put, records, Field, MARKET, PAID, SETTLEMENT, STYLE, UNDERLYING, UNIT_SIZE};
 use usm::{MOST_LEGS, MOST_ROOTS, RECORD_BYTES, ROOT_BYTES};
+use usm_kit::fields::{put, records, Field, MARKET, PAID, SETTLEMENT, STYLE, UNDERLYING, UNIT_SIZE};
 
 use super::World;
 use crate::random::Random;

@@ -2,9 +2,10 @@
 
 use std::collections::BTreeSet;
 
-use usm::accounts::{in_group, leg, root, times};
-use usm::fields::{put, records, MARKET, PAID, SETTLEMENT, STYLE, UNDERLYING, UNIT_SIZE};
-use usm::{model, Leg, Refusal, Root, Settlement, Style, LONGEST_LIST, MOST_LINES, RECORD_BYTES, ROOT_BYTES};
+use usm::{Leg, Refusal, Root, Settlement, Style, LONGEST_LIST, MOST_LINES, RECORD_BYTES, ROOT_BYTES};
+use usm_kit::accounts::{in_group, leg, root, times};
+use usm_kit::fields::{put, records, MARKET, PAID, SETTLEMENT, STYLE, UNDERLYING, UNIT_SIZE};
+use usm_kit::model;
 
 use super::damage::{with_part, IN_A_LINE, IN_A_ROOT};
 use super::World;

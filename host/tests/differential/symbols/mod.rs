@@ -3,11 +3,12 @@
 pub mod damage;
 mod each;
 
-use usm::accounts::in_group;
 use usm::{
-    leg_table, model, padded_root, root_table, Leg, Market, OptionType, Root, Settlement, Side, Style,
-    LONGEST_LIST, MOST_CONTRACTS, MOST_LINES, MOST_ROOTS, RECORD_BYTES,
+    leg_table, padded_root, root_table, Leg, Market, OptionType, Root, Settlement, Side, Style, LONGEST_LIST,
+    MOST_CONTRACTS, MOST_LINES, MOST_ROOTS, RECORD_BYTES,
 };
+use usm_kit::accounts::in_group;
+use usm_kit::model;
 
 use crate::random::Random;
 
@@ -93,7 +94,7 @@ fn terms(random: &mut Random) -> Root {
         } else {
             1 + random.next() as u32 / 2
         },
-        ..usm::accounts::root("A")
+        ..usm_kit::accounts::root("A")
     }
 }
 
@@ -117,7 +118,7 @@ fn leg(random: &mut Random, roots: &[Root]) -> Leg {
             0 => random.between(1, MOST_CONTRACTS),
             _ => (10_u32.pow(digits) + near).saturating_sub(1).clamp(1, MOST_CONTRACTS),
         },
-        ..in_group(0, usm::accounts::leg("L60c"))
+        ..in_group(0, usm_kit::accounts::leg("L60c"))
     }
 }
 

@@ -1,7 +1,11 @@
+use mathlib.Core.Bool.{true, _&&_}
+use mathlib.Core.Path.{_≡_}
 use borrow.Author.Needs.{needs}
 use borrow.Author.Tests.{le-leb, lt-leb}
+use Rattle.records.specs.Dates.{realDate}
 use Rattle.records.specs.Order.{firstOf}
 use Rattle.binaries.specs.Calls.{singleChecks}
+use Rattle.binaries.specs.Positions.{goodFields}
 use Rattle.binaries.proofs.calls.single_fault.Statement.{statement}
 use Rattle.binaries.proofs.calls.single_fault.Tie as tie
 
@@ -9,7 +13,9 @@ returns : tie.Need-returns
 unfolding firstOf singleChecks
 returns c =
     let s = c .before in
-    rw (rw (s .before .good-terms .ensures, s .before .before .is-date .ensures) at (s .if1 .taken), le-leb _ _ (c .if2 .taken))
+    let a = s .before .before .before .args in
+    let good : (realDate (a .valuation) && goodFields (a .spread) (a .expiry) (a .contracts)) ≡ true = rw (s .before .good-terms .ensures, s .before .before .is-date .ensures) at (s .if1 .taken) in
+    rw (good, le-leb _ _ (c .if2 .taken))
 
 returns-2 : tie.Need-returns-2
 unfolding firstOf singleChecks

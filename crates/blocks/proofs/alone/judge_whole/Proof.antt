@@ -9,11 +9,10 @@ use denote.Ref.{now}
 use Rattle.records.specs.Order.{firstOf}
 use Rattle.blocks.specs.Forms.{named}
 use Rattle.blocks.specs.Block.{originOf, sumsAgree, shaped}
-use Rattle.blocks.specs.File.{Tables}
+use Rattle.blocks.specs.File.{Tables, fieldsOf}
 use Rattle.blocks.specs.Alone.{ownTables}
 use Rattle.blocks.specs.declared.forms.Origin.{Origin}
 use Rattle.blocks.specs.declared.answers.Alone.the-variants.{Sound}
-use Rattle.blocks.proofs.FileLaws.{recordChecks}
 use Rattle.blocks.proofs.AloneLaws.{one-block, own-tables, shaped-sized, alone-2, alone-3, alone-4, alone-20, alone-sound}
 use Rattle.blocks.proofs.alone.judge_whole.Statement.{statement}
 use Rattle.blocks.proofs.alone.judge_whole.Tie as tie
@@ -43,10 +42,10 @@ formed c = sym (shape-said (c .before)) ∙ not-false (c .before .well-shaped .r
 abbrev origin : tie.After-file-fields-fault → tie.After-origin-of
 origin f = first (f .before) .before .before
 
-fault-said : (f : tie.After-file-fields-fault) → f .file-fields-fault .result ≡ firstOf (recordChecks (ownTables (block (origin f))))
+fault-said : (f : tie.After-file-fields-fault) → f .file-fields-fault .result ≡ firstOf (fieldsOf (ownTables (block (origin f))))
 fault-said f =
     let o = origin f in
-    f .file-fields-fault .ensures ∙ ap (λ (t : Tables). firstOf (recordChecks t)) (own-tables (block o) (size o))
+    f .file-fields-fault .ensures ∙ ap (λ (t : Tables). firstOf (fieldsOf t)) (own-tables (block o) (size o))
 
 abbrev found : tie.After-is-named → tie.After-file-fields-fault
 found n = n .before .before .before

@@ -9,6 +9,7 @@ use Rattle.blocks.proofs.SumLaws.{byteSum-next, byteSum-none}
 use Rattle.blocks.proofs.checks.check_a.Statement.{statement}
 use Rattle.blocks.proofs.checks.check_a.Tie as tie
 
+-- what is summed so far and the bytes left have the sum of all, but for what wraps
 abbrev Inv-loop : tie.InvT-loop
 Inv-loop s sum₀ i₀ sum i = (i ≤ length s) × (sum < 65536) × ((sum + byteSum (drop i s)) % 65536 ≡ byteSum s % 65536)
 

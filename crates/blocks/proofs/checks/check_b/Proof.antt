@@ -10,6 +10,7 @@ use Rattle.blocks.proofs.SumLaws.{weightedSum-next, weightedSum-none}
 use Rattle.blocks.proofs.checks.check_b.Statement.{statement}
 use Rattle.blocks.proofs.checks.check_b.Tie as tie
 
+-- the next byte weighs as many as are left; what is summed so far and they have the sum of all, but for what wraps
 abbrev Inv-loop : tie.InvT-loop
 Inv-loop s sum₀ weight₀ i₀ sum weight i =
     (i ≤ length s) × (weight ≡ length s - i) × (sum < 65536) × ((sum + weightedSum (drop i s)) % 65536 ≡ weightedSum s % 65536)

@@ -10,6 +10,7 @@ use Rattle.blocks.proofs.FileLaws.{earlier, joinedBack, length-blockAt,
 use Rattle.blocks.proofs.copier.kind_bytes.Statement.{statement}
 use Rattle.blocks.proofs.copier.kind_bytes.Tie as tie
 
+-- the bytes of the blocks before block i are counted
 abbrev Inv-loop : tie.InvT-loop
 Inv-loop file kind n bytes₀ i₀ bytes i = (n ≡ length file / 512) × (i ≤ n) × (bytes ≤ 496 * i) × (bytes ≡ length (joinedTo kind file i))
 

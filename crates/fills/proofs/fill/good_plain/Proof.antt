@@ -1,12 +1,12 @@
 use denote.Ref.{now}
 use borrow.Author.Needs.{needs}
+use Rattle.records.specs.Tables.{goodUnpaid}
 use Rattle.records.proofs.ChunkLaws.{first-record}
-use Rattle.fills.specs.Fills.{goodPlain}
 use Rattle.fills.proofs.fill.good_plain.Statement.{statement}
 use Rattle.fills.proofs.fill.good_plain.Tie as tie
 
 returns : tie.Need-returns
-unfolding goodPlain
+unfolding goodUnpaid
 returns c =
     let l = c .before in
     let z = l .before .before .before in

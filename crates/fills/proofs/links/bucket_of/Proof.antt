@@ -1,4 +1,4 @@
-use Rattle.fills.specs.Links.{bucketOf}
+use Rattle.fills.specs.Steps.Links.{bucketOf}
 use mathlib.Core.Path.{refl}
 use native.Mathlib.Omega.{arith}
 use borrow.Author.Needs.{needs}

@@ -1,4 +1,4 @@
-use Rattle.fills.specs.Links.{legIn}
+use Rattle.fills.specs.Steps.Links.{legInPlay}
 use Rattle.fills.specs.Rows.{unmarked}
 use borrow.Author.Tests.{lt-ltb, le-ltb}
 use borrow.Author.Needs.{needs}
@@ -6,13 +6,13 @@ use Rattle.fills.proofs.links.leg_in.Statement.{statement}
 use Rattle.fills.proofs.links.leg_in.Tie as tie
 
 returns : tie.Need-returns
-unfolding legIn unmarked
+unfolding legInPlay unmarked
 returns c =
     let l = c .before in
     rw (lt-ltb _ _ (l .before .if1 .taken)) (rw (l .leg-at .ensures) at (c .with-paid .ensures))
 
 returns-2 : tie.Need-returns-2
-unfolding legIn
+unfolding legInPlay
 returns-2 c = rw (le-ltb _ _ (c .before .if1 .left)) (c .leg-at2 .ensures)
 
 pub leg-in-spec : {M : Type 1} → statement M

@@ -6,17 +6,18 @@ use denote.Ref.{now}
 use lib.Dec.{eqb}
 use lib.ListN.{length, getD}
 use borrow.Author.Needs.{needs}
-use Rattle.fills.specs.Links.{legIn, bucketOf, isRow, Path, Leads}
-use Rattle.fills.specs.Links as links-of
+use Rattle.fills.specs.Steps.Links.{legInPlay, bucketOf, isRow, Path, Leads}
+use Rattle.fills.specs.Steps.Links as links-of
 use Rattle.fills.proofs.LinkLaws.{leads-none, leads-on}
 use Rattle.fills.proofs.links.link_of.Statement.{statement}
 use Rattle.fills.proofs.links.link_of.Tie as tie
 
+-- where the links lead from here on they lead from the bucket; and a row of the line and side to which they lead from the bucket has not been passed
 abbrev Inv-loop : tie.InvT-loop
 Inv-loop holdings fills k held links leg link₀ link =
     (link < 2304)
-    × ((e : ℕ) → Path links link e → Path links (bucketOf (legIn holdings fills k)) e)
-    × ((i : ℕ) → Leads links (bucketOf (legIn holdings fills k)) i → isRow (legIn holdings fills) held (legIn holdings fills k) i ≡ true → Leads links link i)
+    × ((e : ℕ) → Path links link e → Path links (bucketOf (legInPlay holdings fills k)) e)
+    × ((i : ℕ) → Leads links (bucketOf (legInPlay holdings fills k)) i → isRow (legInPlay holdings fills) held (legInPlay holdings fills k) i ≡ true → Leads links link i)
 
 abbrev μ-loop : tie.MeasureT-loop
 μ-loop holdings fills k held links leg link₀ link = length links - link
@@ -54,7 +55,7 @@ rises c =
 abbrev asked : tie.At-loop Inv-loop μ-loop → ℕ → Bool
 asked l =
     let a = start l .args in
-    isRow (legIn (now (a .holdings)) (now (a .fills))) (now (a .held)) (legIn (now (a .holdings)) (now (a .fills)) (a .k))
+    isRow (legInPlay (now (a .holdings)) (now (a .fills))) (now (a .held)) (legInPlay (now (a .holdings)) (now (a .fills)) (a .k))
 
 -- what the test says of the record that the link leads to
 tested : (c : tie.After-same-line-side Inv-loop μ-loop) (b : Bool)

@@ -10,7 +10,7 @@ use Rattle.records.specs.Legs.{contractsFrom, withContracts, legBytes}
 use Rattle.records.specs.Written.{putAt}
 use Rattle.records.proofs.PutLaws.{put-none}
 use Rattle.fills.specs.Rows.{bytesOf}
-use Rattle.fills.specs.Links.{legIn}
+use Rattle.fills.specs.Steps.Links.{legInPlay}
 use Rattle.fills.proofs.BytesLaws.{bytes-one}
 use Rattle.fills.proofs.rows.put_record.Statement.{statement}
 use Rattle.fills.proofs.rows.put_record.Tie as tie
@@ -24,7 +24,7 @@ fits e = rw (ne-eqb _ 0 (e .if1 .left)) at (start e .pre .1)
 -- the row of the record
 row : (w : tie.After-with-contracts)
     → (let a = start (w .before .before .before .before) .args in
-    w .with-contracts .result ≡ withContracts (legIn (now (a .holdings)) (now (a .fills)) (a .k)) (contractsFrom (getD (now (a .held)) (a .k) 0)))
+    w .with-contracts .result ≡ withContracts (legInPlay (now (a .holdings)) (now (a .fills)) (a .k)) (contractsFrom (getD (now (a .held)) (a .k) 0)))
 row w = rw (w .before .of .ensures, w .before .before .before .leg-in .ensures) at (w .with-contracts .ensures)
 
 returns : tie.Need-returns

@@ -4,15 +4,16 @@ use native.Mathlib.Omega.{arith}
 use denote.Ref.{now}
 use lib.ListN.{length}
 use borrow.Author.Needs.{needs}
-use Rattle.fills.specs.Links.{legIn}
+use Rattle.fills.specs.Steps.Links.{legInPlay}
 use Rattle.fills.proofs.WriteLaws.{Writing, writing-none, writing-room, writing-more, writing-over}
 use Rattle.fills.proofs.rows.put_rows.Statement.{statement}
 use Rattle.fills.proofs.rows.put_rows.Tie as tie
 
+-- the rows of the records before record k are written, one after the other
 abbrev Inv-loop : tie.InvT-loop
 Inv-loop holdings fills held result₀ count out₀ k₀ result out k =
     (count ≡ length holdings / 32 + length fills / 32) × (k ≤ count) × (length result ≡ length result₀)
-    × Writing (legIn holdings fills) held (length holdings / 32 + length fills / 32) result₀ result out k
+    × Writing (legInPlay holdings fills) held (length holdings / 32 + length fills / 32) result₀ result out k
 
 abbrev μ-loop : tie.MeasureT-loop
 μ-loop holdings fills held result₀ count out₀ k₀ result out k = count - k

@@ -5,7 +5,7 @@ use denote.Ref.{now}
 use lib.ListN.{length, getD, length-set}
 use borrow.Author.Needs.{needs}
 use Rattle.records.specs.declared.legs.Leg.{Leg}
-use Rattle.fills.specs.Links.{legIn, bucketOf, isRow, Ended}
+use Rattle.fills.specs.Steps.Links.{legInPlay, bucketOf, isRow, Ended}
 use Rattle.fills.proofs.PostLaws.{there, rows-held, take-some, take-all, take-past, take-none}
 use Rattle.fills.proofs.StandLaws.{link-small}
 use Rattle.fills.proofs.steps.close_row.Statement.{statement}
@@ -23,7 +23,7 @@ link-of-requires c κs =
 -- where the search ended
 ended : (f : tie.After-link-of)
     → (let a = start f .args in
-    let leg = legIn (now (a .holdings)) (now (a .fills)) in
+    let leg = legInPlay (now (a .holdings)) (now (a .fills)) in
     Ended (isRow leg (now (a .held)) (leg (a .k))) (now (a .links)) (bucketOf (leg (a .k))) (f .link-of .result))
 ended f = f .link-of .ensures
 
@@ -58,7 +58,7 @@ some t =
 -- what is taken
 taken : (m : tie.After-number)
     → (let a = start (search-of (m .before .before)) .args in
-    m .number .result ≡ legIn (now (a .holdings)) (now (a .fills)) (a .k) .contracts .0)
+    m .number .result ≡ legInPlay (now (a .holdings)) (now (a .fills)) (a .k) .contracts .0)
 taken m =
     let t = m .before .before in
     m .number .ensures ∙ ap (λ (l : Leg). l .contracts .0) (t .before .before .before .leg-in .ensures)

@@ -6,7 +6,7 @@ use denote.Ref.{now}
 use lib.ListN.{length, getD, length-set}
 use borrow.Author.Needs.{needs}
 use Rattle.records.specs.declared.legs.Leg.{Leg}
-use Rattle.fills.specs.Links.{legIn, bucketOf, isRow, Ended}
+use Rattle.fills.specs.Steps.Links.{legInPlay, bucketOf, isRow, Ended}
 use Rattle.fills.proofs.PostLaws.{there, add-done, add-past, new-done, new-full, sum-fits, sum-past}
 use Rattle.fills.proofs.StandLaws.{link-small}
 use Rattle.fills.proofs.steps.open_row.Statement.{statement}
@@ -24,7 +24,7 @@ link-of-requires c κs =
 -- where the search ended
 ended : (f : tie.After-link-of)
     → (let a = start f .args in
-    let leg = legIn (now (a .holdings)) (now (a .fills)) in
+    let leg = legInPlay (now (a .holdings)) (now (a .fills)) in
     Ended (isRow leg (now (a .held)) (leg (a .k))) (now (a .links)) (bucketOf (leg (a .k))) (f .link-of .result))
 ended f = f .link-of .ensures
 

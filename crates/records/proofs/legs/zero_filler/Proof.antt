@@ -1,4 +1,5 @@
 use denote.Ref.{now}
+use mathlib.Core.Path.{refl}
 use native.Mathlib.Omega.{arith}
 use borrow.Author.Needs.{needs}
 use Rattle.records.proofs.ByteLaws.{zero-in, high-zero}
@@ -9,7 +10,7 @@ returns : tie.Need-returns
 returns c =
     let z = c .before .before .before in
     let part = now (z .args .part) in
-    rw (c .u16-in .ensures, c .before .u64-in .ensures, zero-in part 26 31 (omega arith) (omega (arith, z .pre)), high-zero part 2 6 24 (omega arith))
+    rw (zero-in part 26 31 (omega arith) (omega (arith, z .pre)), ← high-zero part 2 6 24 (omega arith), c .u16-in .ensures, c .before .u64-in .ensures) refl
 
 pub zero-filler-spec : {M : Type 1} → statement M
 zero-filler-spec = tie.close (tie.spec (λ c κs. omega arith) (λ c κs. omega arith) (λ c. search needs) returns)

@@ -2,7 +2,8 @@ use Rattle.records.proofs.OrderLaws.{search-good, search-bad, search-ov
 use Rattle.records.proofs.ChunkLaws.{chunks-all, chunks-step, chunks-none, part-is}
 use Rattle.records.specs.Claims.{goodClaim}
 use Rattle.records.specs.Order.{firstOf, askEach}
-use Rattle.records.specs.Chunks.{chunksFrom, recordsOf}
+use Rattle.records.specs.Steps.Rest.{chunksFrom}
+use Rattle.records.specs.Chunks.{recordsOf}
 use denote.Ref.{now}
 use lib.ListN.{length}
 use mathlib.Core.Path.{_≡_, refl, sym, _∙_}

@@ -6,7 +6,8 @@ use Rattle.records.specs.Dates.{realDate}
 use Rattle.records.specs.Legs.{goodLeg}
 use Rattle.records.specs.Tables.{tableNumber}
 use Rattle.records.specs.Order.{firstOf, askEach}
-use Rattle.records.specs.Chunks.{chunksFrom, recordsOf}
+use Rattle.records.specs.Steps.Rest.{chunksFrom}
+use Rattle.records.specs.Chunks.{recordsOf}
 use denote.Ref.{now}
 use lib.ListN.{length}
 use mathlib.Core.Bool.{true}

@@ -10,8 +10,7 @@ use borrow.Author.Needs.{needs}
 use Rattle.records.specs.Lists.{All}
 use Rattle.records.specs.declared.tables.Kind.the-variants.{Holdings, Placement, Claims}
 use Rattle.blocks.specs.File.{tables, blocksOf, tablesIn, withinLimits}
-use Rattle.blocks.specs.Steps.{Sized}
-use Rattle.salvage.specs.Calls.{left}
+use Rattle.blocks.specs.Steps.Bounds.{Sized}
 use Rattle.salvage.proofs.KeptTables.{kept-sound, sized-all}
 use Rattle.salvage.proofs.CallLaws.{whole-few, whole-limits, copied-front, writes-file, end-3, end-rest}
 use Rattle.salvage.proofs.calls.save_kept.Statement.{statement}
@@ -86,7 +85,6 @@ returns c =
     (rw (end-rest (blocksOf (kept (t .before))) _ _ _ _ _ (limits t)) (rw (tables-are t) at (e .0)), (rw (tables-are t) at (e .1 .0), e .1 .1))
 
 returns-2 : tie.Need-returns-2
-unfolding left
 returns-2 c =
     let w = c .before .before in
     let r = c .refused .ensures in

@@ -6,7 +6,8 @@ use native.Mathlib.Omega.{arith}
 use lib.ListN.{length, take}
 use lib.Seq.{length-take-le}
 use borrow.Author.Needs.{needs}
-use Rattle.salvage.specs.Pieces.{mostBytes, piecesOf}
+use Rattle.blocks.specs.Sizes.{mostFileBytes}
+use Rattle.salvage.specs.Pieces.{piecesOf}
 use Rattle.salvage.proofs.KeptTables.{kept-all}
 use Rattle.salvage.proofs.CallLaws.{kept-few, dropped-few, pieces-few, kept-are, kept-some, SavedAs, saved-as, within-is, salvage-rest}
 use Rattle.salvage.proofs.calls.save_pieces.Statement.{statement}
@@ -70,7 +71,7 @@ returns c =
     let z = start s in
     let v = saved k in
     let e = p .save-kept .ensures in
-    let within = within-is 1 mostBytes (length (bytes s)) (z .pre .0) (z .pre .1) in (
+    let within = within-is 1 mostFileBytes (length (bytes s)) (z .pre .0) (z .pre .1) in (
       (rw (v .blocks, v .file, v .entries) at (e .0)) ∙ sym (salvage-rest (bytes s) _ _ _ within (kept-some (bytes s) (z .args .lead) (z .pre .2))),
       (rw (v .file) at (e .1 .0), (rw (v .indices) at (e .1 .1 .0), rw (v .numbers) at (e .1 .1 .1))),
     )

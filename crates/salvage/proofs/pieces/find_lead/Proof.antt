@@ -12,6 +12,7 @@ use Rattle.salvage.proofs.PieceLaws.{piecesFrom, pieces-all, pieces-ste
 use Rattle.salvage.proofs.pieces.find_lead.Statement.{statement}
 use Rattle.salvage.proofs.pieces.find_lead.Tie as tie
 
+-- no piece before piece i is sound
 abbrev Inv-loop : tie.InvT-loop
 Inv-loop bytes n i₀ i = (n ≡ pieceCount (length bytes)) × (i ≤ n) × (leadOf (piecesOf bytes) ≡ leadOf (piecesFrom bytes i))
 

@@ -5,13 +5,16 @@ use Prim.Native.Nat.{_+_, _-_, _*_, _≤_}
 use native.Mathlib.Omega.{arith}
 use lib.ListN.{length, length-take}
 use borrow.Author.Needs.{needs}
-use Rattle.records.specs.Written.{putAt}
+use Rattle.records.specs.Chunks.{chunkAt}
+use Rattle.records.specs.Written.{putInRoom}
 use Rattle.records.proofs.ChunkLaws.{part-is}
+use Rattle.records.proofs.PutLaws.{put-room}
 use Rattle.salvage.specs.Pieces.{pieceCount}
 use Rattle.salvage.proofs.SortLaws.{Sorting, sorting-none, sorting-kept, sorting-dropped, kept-whole, sorted-kept, sorted-dropped, sorted-bytes, sorted-indices, sorted-numbers}
 use Rattle.salvage.proofs.sorter.sort_pieces.Statement.{statement}
 use Rattle.salvage.proofs.sorter.sort_pieces.Tie as tie
 
+-- of the pieces before piece i the kept ones stand one after the other, and the dropped ones are listed
 abbrev Inv-loop : tie.InvT-loop
 Inv-loop bytes lead kept₀ indices₀ numbers₀ n held₀ listed₀ i₀ kept indices numbers held listed i =
     (n ≡ pieceCount (length bytes)) × (i ≤ n) × Sorting bytes lead kept₀ indices₀ numbers₀ kept indices numbers held listed i
@@ -37,13 +40,6 @@ loop-holds c = (c .piece-count .ensures, omega arith, sorting-none _ _ _ _ _)
 drop-number-requires : tie.Need-drop-number-requires Inv-loop μ-loop
 drop-number-requires c κs = (start (c .before) .pre .0, omega arith)
 
-copy-to-requires : tie.Need-copy-to-requires Inv-loop μ-loop
-copy-to-requires c κs =
-    let t = c .before .before in
-    let l = t .before .before .before in
-    let s = l .loop .inv .2 in
-    rw (part-is 512 (l .loop .i) (now (start l .args .bytes))) (simp length-take (omega (arith, s .all, s .kept-long, start l .pre .1)))
-
 loop-again : tie.Need-loop-again Inv-loop μ-loop
 loop-again c =
     let n = c .before in
@@ -56,7 +52,11 @@ loop-again c =
     (λ w.
     sorting-kept p (omega arith) (sym (n .drop-number .ensures) ∙ w .0 .taken)
     (omega (arith, p .all, start l .pre .1))
-    (w .6 ∙ w .3 .ensures ∙ ap (putAt (l .loop .kept) (512 * l .loop .held)) (part-is 512 i (now (a .bytes))))
+    (w .6
+    ∙ w .3 .ensures
+    ∙ ap (putInRoom (l .loop .kept) (512 * l .loop .held)) (part-is 512 i (now (a .bytes)))
+    ∙ put-room (l .loop .kept) (512 * l .loop .held) (chunkAt 512 (now (a .bytes)) i)
+    (simp length-take (omega (arith, p .all, p .kept-long, start l .pre .1))))
     (w .7) (w .8) (w .9) (w .10))
     (λ w.
     sorting-dropped p (omega arith) (n .drop-number .result) (n .drop-number .ensures) (w .0 .left)
@@ -84,7 +84,7 @@ sort-pieces-spec =
     (λ c. omega arith)
     (λ c. omega arith)
     (λ c. omega (arith, whole (c .before)))
-    copy-to-requires
+    (λ c κs. search needs)
     (λ c. omega (arith, c .before .before .before .before .before .before .before .before .loop .inv .2 .all))
     (λ c. omega arith)
     (λ c. omega (arith, c .before .before .before .loop .inv .2 .all))

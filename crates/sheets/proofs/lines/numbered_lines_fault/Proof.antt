@@ -9,7 +9,7 @@ use Rattle.records.specs.Order.{firstOf, askEach}
 use Rattle.records.specs.Tables.{legsOf}
 use Rattle.records.proofs.OrderLaws.{first-append}
 use Rattle.sheets.specs.Sheets.{evenAt, askLines}
-use Rattle.sheets.specs.Numbered.{Answered}
+use Rattle.sheets.specs.Steps.Pooled.{SumsAnswer}
 use Rattle.sheets.proofs.NumberLaws.{holdings-answered, placement-answered}
 use Rattle.sheets.proofs.lines.numbered_lines_fault.Statement.{statement}
 use Rattle.sheets.proofs.lines.numbered_lines_fault.Tie as tie
@@ -35,12 +35,12 @@ held c = c .before .before .before .before .before .tally .last .1 .1 .1 .0
 abbrev placed : tie.After-tally2 → List ℕ
 placed c = c .tally2 .last .1 .1 .1 .0
 
-in-holdings : (c : tie.After-tally2) → Answered (evenAt (legsOf (h c)) (legsOf (p c))) (h c) 0 (numbers c) (held c) (placed c)
+in-holdings : (c : tie.After-tally2) → SumsAnswer (evenAt (legsOf (h c)) (legsOf (p c))) (h c) 0 (numbers c) (held c) (placed c)
 in-holdings c =
     holdings-answered (h c) (p c) (numbers c) (held c) (placed c) (numbered c .number-lines .ensures .0) (c .before .before .before .before .before .tally .ensures .0)
     (c .tally2 .ensures .0)
 
-in-placement : (c : tie.After-tally2) → Answered (evenAt (legsOf (h c)) (legsOf (p c))) (p c) (length (h c) / 32) (numbers c) (held c) (placed c)
+in-placement : (c : tie.After-tally2) → SumsAnswer (evenAt (legsOf (h c)) (legsOf (p c))) (p c) (length (h c) / 32) (numbers c) (held c) (placed c)
 in-placement c =
     placement-answered (h c) (p c) (numbers c) (held c) (placed c) (numbered c .number-lines .ensures .0)
     (c .before .before .before .before .before .tally .ensures .0) (c .tally2 .ensures .0)
@@ -49,13 +49,13 @@ tally-requires : tie.Need-tally-requires
 tally-requires c κs =
     let n = c .before .before .before .before in
     let s = n .before .before .before .before .before .before .before in
-    ((omega arith, omega arith, omega arith), (λ i l. n .number-lines .ensures .0 .below i (omega arith), s .pre .1 .0 .1))
+    (((omega arith, omega arith), omega arith), (λ i l. n .number-lines .ensures .0 .below i (omega arith), s .pre .1 .1 .0 .1))
 
 tally-requires-2 : tie.Need-tally-requires-2
 tally-requires-2 c κs =
     let n = c .before .before .before .before .before .before .before .before .before in
     let s = n .before .before .before .before .before .before .before in
-    ((omega arith, omega arith, omega arith), (λ i l. n .number-lines .ensures .0 .below i (omega arith), s .pre .1 .1 .1))
+    (((omega arith, omega arith), omega arith), (λ i l. n .number-lines .ensures .0 .below i (omega arith), s .pre .1 .1 .1 .1))
 
 -- what the search through either table asks of the numbers and the sums
 ready : (c : tie.After-tally2)
@@ -72,14 +72,14 @@ first-uneven-requires c κs =
     let t = c .before .before .before .before .before in
     let n = numbered t in
     let r = ready t in
-    ((omega arith, omega arith, λ i l. n .number-lines .ensures .0 .below i (omega arith)), (omega arith, omega arith))
+    (((omega arith, omega arith), λ i l. n .number-lines .ensures .0 .below i (omega arith)), (omega arith, omega arith))
 
 first-uneven-requires-2 : tie.Need-first-uneven-requires-2
 first-uneven-requires-2 c κs =
     let t = c .before .before .before .before .before .before .before .before .before .before .before in
     let n = numbered t in
     let r = ready t in
-    ((omega arith, omega arith, λ i l. n .number-lines .ensures .0 .below i (omega arith)), (omega arith, omega arith))
+    (((omega arith, omega arith), λ i l. n .number-lines .ensures .0 .below i (omega arith)), (omega arith, omega arith))
 
 -- the answer of the holdings
 first : (c : tie.After-first-uneven)

@@ -1,4 +1,4 @@
-use Rattle.sheets.specs.Links.{digitsOf}
+use Rattle.sheets.specs.Steps.Links.{digitsOf}
 use mathlib.Core.Path.{refl}
 use borrow.Author.Needs.{needs}
 use Rattle.sheets.proofs.links.digits_of.Statement.{statement}

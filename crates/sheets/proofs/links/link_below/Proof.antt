@@ -1,4 +1,4 @@
-use Rattle.sheets.specs.Links.{linkBelow}
+use Rattle.sheets.specs.Steps.Links.{linkBelow}
 use mathlib.Core.Path.{refl}
 use native.Mathlib.Omega.{arith}
 use borrow.Author.Needs.{needs}

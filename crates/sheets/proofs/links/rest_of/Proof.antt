@@ -1,4 +1,4 @@
-use Rattle.sheets.specs.Links.{restOf}
+use Rattle.sheets.specs.Steps.Links.{restOf}
 use borrow.Author.Tests.{lt-ltb, le-ltb}
 use Rattle.sheets.proofs.links.rest_of.Statement.{statement}
 use Rattle.sheets.proofs.links.rest_of.Tie as tie

@@ -10,6 +10,7 @@ use Rattle.sheets.proofs.MarkLaws.{Marking, marking-none, marking-more,
 use Rattle.sheets.proofs.marks.mark_records.Statement.{statement}
 use Rattle.sheets.proofs.marks.mark_records.Tie as tie
 
+-- the records before i have passed, the rest is as it was, and the marks set and to be set are all of them
 abbrev Inv-loop : tie.InvT-loop
 Inv-loop placement₀ n marks₀ i₀ placement marks i =
     (n ≡ length placement₀ / 32) × (i ≤ n) × (length placement ≡ length placement₀) × Marking placement₀ placement marks i

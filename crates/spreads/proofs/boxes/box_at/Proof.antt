@@ -4,13 +4,14 @@ use native.Mathlib.Omega.{arith}
 use lib.ListN.{length}
 use borrow.Author.Needs.{needs}
 use borrow.Author.Tests.{not-true, not-false}
-use Rattle.spreads.specs.Boxed.{fitsBox, noKinds, withKind}
+use Rattle.spreads.specs.Steps.Boxed.{fitsBox, noKinds, withKind}
 use Rattle.spreads.proofs.MemberLaws.{members-many}
 use Rattle.spreads.proofs.Folds.{Folding, fold-none, fold-more, fold-done}
 use Rattle.spreads.proofs.BoxTest.{Passed, passed-none, passed-more, passed-stop, passed-done, not-fit, is-box, no-box}
 use Rattle.spreads.proofs.boxes.box_at.Statement.{statement}
 use Rattle.spreads.proofs.boxes.box_at.Tie as tie
 
+-- the first i legs fit, and the kinds are theirs
 abbrev Inv-loop : tie.InvT-loop
 Inv-loop placement members low high expiry kinds₀ i₀ kinds i =
     Passed (fitsBox low high expiry) placement members i × Folding withKind noKinds placement members i kinds

@@ -1,7 +1,7 @@
 use mathlib.Core.Path.{refl}
 use borrow.Author.Needs.{needs}
 use Rattle.spreads.specs.Calls.{groupsChecks, marginsCall}
-use Rattle.spreads.proofs.Answers.{table-checked, listed-stop, listed-then}
+use Rattle.spreads.proofs.AnswerLaws.{table-checked, listed-stop, listed-then}
 use Rattle.spreads.proofs.calls.price_groups.Statement.{statement}
 use Rattle.spreads.proofs.calls.price_groups.Tie as tie
 

@@ -4,12 +4,13 @@ use native.Mathlib.Omega.{arith}
 use lib.ListN.{length}
 use borrow.Author.Needs.{needs}
 use borrow.Author.Tests.{not-true, not-false}
-use Rattle.spreads.specs.Cash.{fitsCash}
+use Rattle.spreads.specs.Steps.Fitting.{fitsCash}
 use Rattle.spreads.proofs.MemberLaws.{members-many}
 use Rattle.spreads.proofs.BoxTest.{Passed, passed-none, passed-more, passed-stop, passed-done}
 use Rattle.spreads.proofs.cash_accounts.all_fit.Statement.{statement}
 use Rattle.spreads.proofs.cash_accounts.all_fit.Tie as tie
 
+-- the first i legs fit
 abbrev Inv-loop : tie.InvT-loop
 Inv-loop placement members expiry i₀ i = Passed (fitsCash expiry) placement members i
 

@@ -1,6 +1,6 @@
 use borrow.Author.Needs.{needs}
 use Rattle.spreads.specs.Cash.{cashCall}
-use Rattle.spreads.proofs.Answers.{table-checked, due-stop, due-then}
+use Rattle.spreads.proofs.AnswerLaws.{table-checked, due-stop, due-then}
 use Rattle.spreads.proofs.cash_accounts.cash.Statement.{statement}
 use Rattle.spreads.proofs.cash_accounts.cash.Tie as tie
 

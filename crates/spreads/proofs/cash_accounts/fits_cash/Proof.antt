@@ -1,5 +1,5 @@
 use mathlib.Core.Path.{refl}
-use Rattle.spreads.specs.Cash.{fitsCash}
+use Rattle.spreads.specs.Steps.Fitting.{fitsCash}
 use Rattle.spreads.proofs.cash_accounts.fits_cash.Statement.{statement}
 use Rattle.spreads.proofs.cash_accounts.fits_cash.Tie as tie
 

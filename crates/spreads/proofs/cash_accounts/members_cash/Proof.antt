@@ -4,18 +4,16 @@ use lib.IntN.{pos}
 use mir.Syntax.{w64}
 use mir.Facts.{toZ-pos}
 use borrow.Author.Needs.{needs}
-use Rattle.spreads.specs.Cash.{requiredOf}
-use Rattle.spreads.specs.declared.calls.Due.the-variants.{Mills}
+use Rattle.spreads.specs.declared.answers.Due.the-variants.{Mills}
 use Rattle.spreads.proofs.CashLaws.{fit-due, not-fit-due}
 use Rattle.spreads.proofs.cash_accounts.members_cash.Statement.{statement}
 use Rattle.spreads.proofs.cash_accounts.members_cash.Tie as tie
 
 returns : tie.Need-returns
-unfolding requiredOf
 returns c =
     let r = c .before in
     let t = r .before in
-    ap Mills (toZ-pos w64 (omega (arith, r .required-of .ensures .1)) ∙ ap pos (r .required-of .ensures .0)) ∙ fit-due _ _ (sym (t .before .fit-for-cash .ensures) ∙ t .if1 .taken)
+    ap Mills (toZ-pos w64 (omega (arith, r .worst-at .ensures .1)) ∙ ap pos (r .worst-at .ensures .0)) ∙ fit-due _ _ (sym (t .before .fit-for-cash .ensures) ∙ t .if1 .taken)
 
 returns-2 : tie.Need-returns-2
 returns-2 c =

@@ -5,6 +5,7 @@ use Rattle.spreads.proofs.LinkLaws.{Finding, find-none, find-past, find
 use Rattle.spreads.proofs.links.find_members.Statement.{statement}
 use Rattle.spreads.proofs.links.find_members.Tie as tie
 
+-- the places found so far, and those from `at` on, are those of the group
 abbrev Inv-loop : tie.InvT-loop
 Inv-loop placement links g members₀ n count₀ at₀ members count at = Finding g placement links members₀ members n count at
 

@@ -3,12 +3,13 @@ use mathlib.Core.Path.{_≡_, refl, sym, ap, _∙_}
 use native.Mathlib.Omega.{arith}
 use lib.ListN.{length, length-set}
 use borrow.Author.Needs.{needs}
-use Rattle.spreads.specs.Steps.{Checked}
-use Rattle.spreads.specs.Links.{Linked}
+use Rattle.spreads.specs.Steps.Members.{Checked}
+use Rattle.spreads.specs.Steps.Links.{Linked}
 use Rattle.spreads.proofs.LinkLaws.{table-records, group-fits, link-none, link-more}
 use Rattle.spreads.proofs.links.link_groups.Statement.{statement}
 use Rattle.spreads.proofs.links.link_groups.Tie as tie
 
+-- the records from i on are linked
 abbrev Inv-loop : tie.InvT-loop
 Inv-loop placement links₀ i₀ links i = Checked placement × (i ≤ length placement / 32) × Linked placement links i
 

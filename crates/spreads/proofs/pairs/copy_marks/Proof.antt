@@ -3,13 +3,14 @@ use mathlib.Core.Path.{sym, _∙_}
 use native.Mathlib.Omega.{arith}
 use lib.ListN.{length}
 use borrow.Author.Needs.{needs}
-use Rattle.spreads.specs.Search.{marksAt}
-use Rattle.spreads.specs.Members.{legsAt}
+use Rattle.spreads.specs.Steps.Search.{marksAt}
+use Rattle.spreads.specs.Steps.Members.{legsAt}
 use Rattle.spreads.proofs.SearchLaws.{length-marks, mark-at}
 use Rattle.spreads.proofs.Written.{WrittenSoFar, write-none, write-length, write-more, write-all}
 use Rattle.spreads.proofs.pairs.copy_marks.Statement.{statement}
 use Rattle.spreads.proofs.pairs.copy_marks.Tie as tie
 
+-- the marks of the first i legs stand in the list
 abbrev Inv-loop : tie.InvT-loop
 Inv-loop placement members marks₀ i₀ marks i = (i ≤ length members) × WrittenSoFar (marksAt (legsAt placement members)) marks₀ i marks
 

@@ -1,10 +1,11 @@
+use native.Mathlib.Omega.{arith}
 use borrow.Author.Needs.{needs}
-use Rattle.spreads.specs.Search.{markOf}
+use Rattle.spreads.specs.Steps.Search.{seriesMark}
 use Rattle.spreads.proofs.pairs.mark_of.Statement.{statement}
 use Rattle.spreads.proofs.pairs.mark_of.Tie as tie
 
 returns : tie.Need-returns
-unfolding markOf
+unfolding seriesMark
 returns c = search needs
 
 pub mark-of-spec : {M : Type 1} → statement M
@@ -23,4 +24,5 @@ mark-of-spec =
     (λ c. search needs)
     (λ c. search needs)
     (λ c. search needs)
+    (λ c. omega arith)
     returns)

@@ -7,6 +7,7 @@ use Rattle.spreads.proofs.Breaking.{Breaking, break-none, break-more, b
 use Rattle.spreads.proofs.pointing.first_breaking.Statement.{statement}
 use Rattle.spreads.proofs.pointing.first_breaking.Tie as tie
 
+-- the first i legs do not break the condition, and the facts are theirs
 abbrev Inv-loop : tie.InvT-loop
 Inv-loop placement members number facts₀ i₀ facts i = Breaking number placement members i facts
 

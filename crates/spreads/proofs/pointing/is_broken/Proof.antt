@@ -1,5 +1,5 @@
 use borrow.Author.Tests.{eq-eqb, ne-eqb}
-use Rattle.spreads.specs.Pointing.{brokenBy}
+use Rattle.spreads.specs.Steps.Pointing.{brokenBy}
 use Rattle.spreads.proofs.Breaking.{later-not}
 use Rattle.spreads.proofs.pointing.is_broken.Statement.{statement}
 use Rattle.spreads.proofs.pointing.is_broken.Tie as tie

@@ -5,7 +5,7 @@ use native.Mathlib.Omega.{arith}
 use lib.ListN.{length}
 use borrow.Author.Needs.{needs}
 use borrow.Author.Tests.{not-true, not-false}
-use Rattle.spreads.specs.Pointing.{pointsAtLeg, placeOf}
+use Rattle.spreads.specs.Steps.Pointing.{pointsAtLeg, placeOf}
 use Rattle.spreads.proofs.MemberLaws.{members-many}
 use Rattle.spreads.proofs.Naming.{one-group, leg-short, leg-place}
 use Rattle.spreads.proofs.pointing.place_of.Statement.{statement}

@@ -4,7 +4,7 @@ use native.Mathlib.Omega.{arith}
 use denote.Ref.{now}
 use lib.ListN.{length, drop}
 use borrow.Author.Needs.{needs}
-use Rattle.symbols.specs.Digits.{valueFrom, valueOf}
+use Rattle.records.specs.Text.{valueFrom, valueOf}
 use Rattle.symbols.proofs.DigitLaws.{value-room, value-grows, value-most}
 use Rattle.symbols.proofs.RunLaws.{value-next, value-over}
 use Rattle.symbols.proofs.digits.number_of.Statement.{statement}

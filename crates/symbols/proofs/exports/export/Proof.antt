@@ -9,7 +9,7 @@ use Rattle.records.specs.declared.refusals.Fault.the-variants.{Nothing}
 use Rattle.records.specs.declared.tables.Kind.the-variants.{Holdings}
 use Rattle.records.proofs.OrderLaws.{first-then, first-stop}
 use Rattle.records.proofs.TableLaws.{whole}
-use Rattle.symbols.specs.Calls.{exportChecks, exportOf, exportLeaves}
+use Rattle.symbols.specs.Calls.{exportChecks, exportCall}
 use Rattle.symbols.specs.Roots.{rootChecks}
 use Rattle.symbols.proofs.exports.export.Statement.{statement}
 use Rattle.symbols.proofs.exports.export.Tie as tie
@@ -25,18 +25,18 @@ export-records-requires : tie.Need-export-records-requires
 export-records-requires c κs = whole Holdings _ (is-whole (c .before)) .1
 
 returns : tie.Need-returns
-unfolding exportOf exportChecks firstOf
+unfolding exportCall exportChecks firstOf
 returns c =
     let p = c .before .before in
     let i = p .before .before in
     (rw (first-then _ _ (passed (i .before .before)), is-whole i) (p .export-records .ensures .0), p .export-records .ensures .1)
 
 returns-2 : tie.Need-returns-2
-unfolding exportOf exportChecks exportLeaves
+unfolding exportCall exportChecks
 returns-2 c = (rw (first-stop _ _ _ (sym (c .before .before .before .root-fault .ensures) ∙ c .before .refusal .given .1)), refl)
 
 returns-3 : tie.Need-returns-3
-unfolding exportOf exportChecks exportLeaves firstOf
+unfolding exportCall exportChecks firstOf
 returns-3 c =
     (rw (first-then _ _ (passed (c .before .before)), sym (c .before .whole-table .ensures) ∙ c .if1 .left), refl)
 

@@ -9,7 +9,7 @@ use Rattle.records.specs.Written.{putAt}
 use Rattle.records.specs.declared.refusals.Fault.the-variants.{Nothing}
 use Rattle.records.proofs.OrderLaws.{first-then, first-stop}
 use Rattle.records.proofs.PutLaws.{put-holds}
-use Rattle.symbols.specs.Calls.{recordChecks, listOf, exportLeaves}
+use Rattle.symbols.specs.Calls.{recordChecks, listOf}
 use Rattle.symbols.specs.Roots.{rootsOf}
 use Rattle.symbols.specs.declared.exports.Exported.the-variants.{Bytes}
 use Rattle.symbols.proofs.AnswerLaws.{exported-refused, exported-bytes}
@@ -36,7 +36,6 @@ put-list-requires c κs =
     omega (arith, counted s .1, ap length (standing s), put-holds (replicate 7936 0) (listOf (now (a .roots)) (now (a .holdings))))
 
 returns : tie.Need-returns
-unfolding exportLeaves
 returns c =
     let t = c .before .before .before .before in
     (rw (first-stop _ _ _ (exported-refused _ _ _ (sym (c .before .refusal .given .1) ∙ t .take-records .ensures .0))), refl)

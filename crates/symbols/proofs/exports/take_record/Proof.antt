@@ -10,7 +10,8 @@ use borrow.Author.Needs.{needs}
 use Rattle.records.specs.Chunks.{chunkAt}
 use Rattle.records.specs.Legs.{legOf}
 use Rattle.records.proofs.ChunkLaws.{part-is}
-use Rattle.symbols.specs.Calls.{goodUnpaid, lineOfRecord}
+use Rattle.records.specs.Tables.{goodUnpaid}
+use Rattle.symbols.specs.Calls.{lineOfRecord}
 use Rattle.symbols.specs.Lines.{lineText}
 use Rattle.symbols.specs.Roots.{rootsOf, placeOfTerms, legTerms}
 use Rattle.symbols.proofs.ExportLaws.{number-none, number-unknown, number-bad, unpaid-is, terms-known, terms-unknown, line-is}

@@ -11,6 +11,7 @@ use Rattle.symbols.proofs.ExportLaws.{TakingRecords, taking-none, takin
 use Rattle.symbols.proofs.exports.take_records.Statement.{statement}
 use Rattle.symbols.proofs.exports.take_records.Tie as tie
 
+-- the records before record i are good, and their lines stand in the text, up to `at`
 abbrev Inv-loop : tie.InvT-loop
 Inv-loop roots holdings text₀ n at₀ i₀ text at i =
     (n ≡ length holdings / 32) × (i ≤ n) × (length text ≡ length text₀) × TakingRecords (rootsOf roots) holdings text₀ text at i

@@ -1,16 +1,16 @@
 use mathlib.Core.Path.{refl, sym, _∙_}
 use borrow.Author.Needs.{needs}
 use Rattle.records.proofs.OrderLaws.{first-then, first-stop}
-use Rattle.symbols.specs.Calls.{importChecks, importOf, importLeaves}
+use Rattle.symbols.specs.Calls.{importChecks, importCall}
 use Rattle.symbols.proofs.imports.import.Statement.{statement}
 use Rattle.symbols.proofs.imports.import.Tie as tie
 
 returns : tie.Need-returns
-unfolding importOf importChecks importLeaves
+unfolding importCall importChecks
 returns c = (rw (first-stop _ _ _ (sym (c .before .before .before .root-fault .ensures) ∙ c .before .refusal .given .1)), refl)
 
 returns-2 : tie.Need-returns-2
-unfolding importOf importChecks
+unfolding importCall importChecks
 returns-2 c =
     let p = c .before .before in
     let t = p .before .before in

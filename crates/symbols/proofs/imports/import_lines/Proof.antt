@@ -7,7 +7,7 @@ use borrow.Author.Needs.{needs}
 use Rattle.records.specs.Order.{firstOf}
 use Rattle.records.specs.declared.refusals.Fault.the-variants.{Nothing}
 use Rattle.records.proofs.OrderLaws.{first-then, first-stop}
-use Rattle.symbols.specs.Calls.{lineChecks, recordsFor, holdingsOf, importLeaves}
+use Rattle.symbols.specs.Calls.{lineChecks, recordsFor, holdingsOf}
 use Rattle.symbols.specs.Lines.{linesOf}
 use Rattle.symbols.specs.Roots.{rootsOf}
 use Rattle.symbols.specs.declared.imports.Imported.the-variants.{Records}
@@ -35,7 +35,6 @@ standing c h =
     front-is (32 * c .n .given .0 .0) (taking c .take-lines .last .1 .1 .0) (replicate 8192 0) rs n e
 
 returns : tie.Need-returns
-unfolding importLeaves
 returns c =
     let t = c .before .before .before .before in
     (rw (first-stop _ _ _ (imported-refused _ _ _ (sym (c .before .refusal .given .1) ∙ t .take-lines .ensures .0))), refl)

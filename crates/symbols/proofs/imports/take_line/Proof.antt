@@ -1,10 +1,14 @@
 use mathlib.Core.Path.{_≡_, sym, _∙_}
 use mathlib.Core.Bool.{true}
 use mathlib.Core.List.{[]}
+use Prim.Native.Nat.{_+_, _*_, _≤_}
 use native.Mathlib.Omega.{arith}
 use denote.Ref.{now}
+use lib.ListN.{length}
 use lib.Seq.{length-take-le}
 use borrow.Author.Needs.{needs}
+use Rattle.records.proofs.LegLaws.{length-leg-bytes}
+use Rattle.records.proofs.PutLaws.{put-room}
 use Rattle.symbols.specs.Lines.{wellFormed, lineSays, lineInRange}
 use Rattle.symbols.specs.Roots.{rootsOf}
 use Rattle.symbols.proofs.ImportLaws.{number-none, number-unknown, number-range, number-malformed, root-known, root-unknown, leg-is}
@@ -41,11 +45,13 @@ returns c =
     let roots = now (a .roots) in
     let xs = now (a .line) in
     let place = f .find-name .result in
+    let start = u .before .before .before .before .before in
+    let room : 32 * a .i + length (b .leg-bytes .result) ≤ length (now (a .rows)) = rw (b .leg-bytes .ensures) (omega (arith, length-leg-bytes (b .before .line-leg .result), start .pre)) in
     let leg =
     leg-is roots xs place (f .find-name .ensures) (omega arith) (t .terms-at .result) (s .before .before .line-says .result) (t .terms-at .ensures)
     (s .before .before .line-says .ensures) in (
       number-none (rootsOf roots) 0 xs [] (formed u) (said s) (root-known roots xs place (f .find-name .ensures) (omega arith)),
-      λ z h. rw (b .leg-bytes .ensures, b .before .line-leg .ensures, leg) at (k .copy-to .ensures),
+      λ z h. rw (b .leg-bytes .ensures, b .before .line-leg .ensures, leg) at (k .copy-to .ensures ∙ put-room _ (32 * a .i) _ room),
     )
 
 returns-2 : tie.Need-returns-2

@@ -8,6 +8,7 @@ use Rattle.symbols.proofs.ImportLaws.{TakingLines, taking-none, end-wit
 use Rattle.symbols.proofs.imports.take_lines.Statement.{statement}
 use Rattle.symbols.proofs.imports.take_lines.Tie as tie
 
+-- the lines before index `at` are good, i of them, and the records of the first 256 stand in the rows
 abbrev Inv-loop : tie.InvT-loop
 Inv-loop roots list rows₀ at₀ i₀ rows at i = (length rows ≡ length rows₀) × TakingLines (rootsOf roots) list rows₀ rows at i
 

@@ -3,11 +3,12 @@ use mathlib.Core.Path.{_≡_, refl}
 use native.Mathlib.Omega.{arith}
 use denote.Ref.{now}
 use lib.ListN.{length, drop}
-use Rattle.symbols.specs.Steps.{lineLength}
+use Rattle.symbols.specs.Steps.Numbers.{lineLength}
 use Rattle.symbols.proofs.RunLaws.{line-next, line-found, line-over}
 use Rattle.symbols.proofs.lines.line_end.Statement.{statement}
 use Rattle.symbols.proofs.lines.line_end.Tie as tie
 
+-- no newline stands from `at` up to i: the line ends where the first line of what is left does
 abbrev Inv-loop : tie.InvT-loop
 Inv-loop list at i₀ i = (i ≤ length list) × (at + lineLength (drop at list) ≡ i + lineLength (drop i list))
 

@@ -1,8 +1,10 @@
 use mathlib.Core.Path.{_∙_}
+use Prim.Native.Nat.{_+_}
 use native.Mathlib.Omega.{arith}
 use denote.Ref.{now}
 use lib.ListN.{length-set}
 use borrow.Author.Needs.{needs}
+use Rattle.records.proofs.PutLaws.{put-room}
 use Rattle.symbols.proofs.DigitLaws.{places-most}
 use Rattle.symbols.proofs.LineLaws.{length-line, line-put}
 use Rattle.symbols.proofs.lines.put_line.Statement.{statement}
@@ -42,7 +44,7 @@ returns c =
       line-put name (a .leg) (z .pre .0) (now (a .out)) (s .put-symbol .last .1 .1 .0) (k .copy-to .last .0) (d .put-digits .last .1 .1 .0) (a .at)
           (m .side-char .result) (n .number .result) (p .places-of .result) (z .pre .1)
           (d .put-digits .kept .1 .1 .0 ∙ k .copy-to .kept .0 ∙ s .put-symbol .kept .1 .1 .0) (s .put-symbol .ensures) (m .side-char .ensures)
-          (k .copy-to .ensures) (n .number .ensures) (p .places-of .ensures) (d .put-digits .ensures),
+          (k .copy-to .ensures ∙ put-room _ (a .at + 21) _ (omega (arith, s .put-symbol .kept .1 .1 .0, z .pre .1))) (n .number .ensures) (p .places-of .ensures) (d .put-digits .ensures),
     )
 
 pub put-line-spec : {M : Type 1} → statement M

@@ -11,6 +11,7 @@ use Rattle.symbols.proofs.RootLaws.{askedFrom, ask-all, ask-next, ask-s
 use Rattle.symbols.proofs.roots.entry_fault.Statement.{statement}
 use Rattle.symbols.proofs.roots.entry_fault.Tie as tie
 
+-- the entries before entry i are good: the answer is that of those left
 abbrev Inv-loop : tie.InvT-loop
 Inv-loop roots n i₀ i = (n ≡ length roots / 16) × (i ≤ n) × (firstOf (askRoots [] 0 (rootsOf roots)) ≡ askedFrom roots i)
 

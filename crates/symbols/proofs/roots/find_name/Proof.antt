@@ -9,6 +9,7 @@ use Rattle.symbols.proofs.PlaceLaws.{name-is, name-hit, name-miss, name
 use Rattle.symbols.proofs.roots.find_name.Statement.{statement}
 use Rattle.symbols.proofs.roots.find_name.Tie as tie
 
+-- no entry before entry i has the root
 abbrev Inv-loop : tie.InvT-loop
 Inv-loop roots name n i₀ i =
     (n ≡ length roots / 16) × (i ≤ n) × (placeOfName name (rootsOf roots) ≡ i + placeOfName name (rootsFrom roots i))

@@ -10,6 +10,7 @@ use Rattle.symbols.proofs.PlaceLaws.{terms-hit, terms-miss, terms-none}
 use Rattle.symbols.proofs.roots.find_terms.Statement.{statement}
 use Rattle.symbols.proofs.roots.find_terms.Tie as tie
 
+-- no entry before entry i has the terms
 abbrev Inv-loop : tie.InvT-loop
 Inv-loop roots terms n i₀ i =
     (n ≡ length roots / 16) × (i ≤ n) × (placeOfTerms terms (rootsOf roots) ≡ i + placeOfTerms terms (rootsFrom roots i))

@@ -12,6 +12,7 @@ use Rattle.symbols.proofs.PlaceLaws.{name-is}
 use Rattle.symbols.proofs.roots.is_fresh.Statement.{statement}
 use Rattle.symbols.proofs.roots.is_fresh.Tie as tie
 
+-- entry i repeats none of the entries before entry j
 abbrev Inv-loop : tie.InvT-loop
 Inv-loop roots i at end terms j₀ j =
     (j ≤ i) × (fresh (take i (rootsOf roots)) (chunkAt 16 roots i) ≡ freshFrom roots i j)

@@ -1,6 +1,5 @@
 use mathlib.Core.Path.{refl}
 use borrow.Author.Tests.{ne-eqb}
-use Rattle.blocks.specs.Writer.{filled}
 use Rattle.usm_c.specs.Outcomes.{writeAs}
 use borrow.Author.Needs.{needs}
 use Rattle.usm_c.proofs.origins.write_as.Statement.{statement}
@@ -19,7 +18,7 @@ returns-2 c =
     rw (w .before .before .match .keys2) (w .write-file2 .ensures)
 
 returns-3 : tie.Need-returns-3
-unfolding writeAs filled
+unfolding writeAs
 returns-3 c =
     let n = c .match .rest in
     rw (ne-eqb _ 1 (n .0 .1), ne-eqb _ 2 (n .1)) (refl, refl)

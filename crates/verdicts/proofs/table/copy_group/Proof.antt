@@ -1,6 +1,6 @@
 use Rattle.verdicts.proofs.GroupTables.{copiedTo, copied-none, copied-in, copied-out, copied-short, copied-all}
 use Rattle.verdicts.proofs.PieceLaws.{piece-none, piece-then, piece-is}
-use Rattle.verdicts.specs.Printed.{Piece}
+use Rattle.verdicts.specs.Steps.Pieces.{Piece}
 use Rattle.records.proofs.ChunkLaws.{part-is}
 use native.Mathlib.Omega.{arith}
 use lib.ListN.{length, drop, length-take}
@@ -12,6 +12,7 @@ use borrow.Author.Needs.{needs}
 use Rattle.verdicts.proofs.table.copy_group.Statement.{statement}
 use Rattle.verdicts.proofs.table.copy_group.Tie as tie
 
+-- the group's records among those before `place` stand at the front
 abbrev Inv-loop : tie.InvT-loop
 Inv-loop placement g table₀ n next₀ place₀ table next place =
     (place ≤ n) × (n ≡ length placement / 32) × (length table ≡ length table₀) × Piece table₀ 0 (copiedTo g placement place) next table

@@ -1,7 +1,7 @@
 use Rattle.verdicts.proofs.GroupTables.{table-lines, table-answered}
 use Rattle.verdicts.proofs.PieceLaws.{piece-then, piece-is, piece-front}
 use Rattle.verdicts.proofs.ShownLaws.{group-text}
-use Rattle.verdicts.specs.Steps.{groupTable, worksheetLines}
+use Rattle.verdicts.specs.Steps.Groups.{groupTable, worksheetLines}
 use Rattle.verdicts.specs.TableText.{groupLine, groupText, shownOf}
 use Rattle.spreads.specs.Spreads.{groupIn}
 use native.Mathlib.Omega.{arith}

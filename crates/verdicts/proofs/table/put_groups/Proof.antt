@@ -1,7 +1,7 @@
 use Rattle.verdicts.proofs.PieceLaws.{piece-none, piece-then, piece-is}
 use Rattle.verdicts.proofs.ShownLaws.{shown-none, shown-more}
 use Rattle.verdicts.proofs.KeptLaws.{kept-answered, kept-margin, kept-room}
-use Rattle.verdicts.specs.Printed.{Piece}
+use Rattle.verdicts.specs.Steps.Pieces.{Piece}
 use Rattle.verdicts.specs.TableText.{shownIn, shownText}
 use Rattle.records.specs.Tables.{legsOf}
 use native.Mathlib.Omega.{arith}
@@ -13,6 +13,7 @@ use borrow.Author.Needs.{needs}
 use Rattle.verdicts.proofs.table.put_groups.Statement.{statement}
 use Rattle.verdicts.proofs.table.put_groups.Tie as tie
 
+-- groups 1 to k are written
 abbrev Inv-loop : tie.InvT-loop
 Inv-loop placement claims table₀ out₀ n next₀ k₀ table out next k =
     (k ≤ n) × (n ≡ length claims / 32) × (length table ≡ length table₀) × (length out ≡ length out₀) × Piece out₀ 0 (shownText (shownIn k (legsOf placement))) next out

@@ -7,13 +7,14 @@ use lib.ListN.{length, take, getD}
 use mir.Syntax.{w64}
 use mir.Val.{SFits}
 use mir.Facts.{toZ-ofZ}
-use Rattle.verdicts.specs.Printed.{Piece}
+use Rattle.verdicts.specs.Steps.Pieces.{Piece}
 use Rattle.verdicts.specs.TableText.{strikeLines}
 use Rattle.verdicts.proofs.PieceLaws.{piece-none, piece-then, piece-is}
 use Rattle.verdicts.proofs.ShownLaws.{lines-none, lines-more, lines-all, lines-room}
 use Rattle.verdicts.proofs.table.put_strike_lines.Statement.{statement}
 use Rattle.verdicts.proofs.table.put_strike_lines.Tie as tie
 
+-- the lines of the first i strikes are written
 abbrev Inv-loop : tie.InvT-loop
 Inv-loop strikes nets out₀ at next₀ i₀ out next i =
     (i ≤ length strikes) × (length out ≡ length out₀) × Piece out₀ at (strikeLines (take i strikes) (take i nets)) next out

@@ -70,7 +70,7 @@ impl Object {
         self.with("verdict", verdict)
             .with("groups", accepted.map(|accepted| accepted.groups))
             .with("total", accepted.map(|accepted| accepted.total))
-            .with("margins", judged.margins.clone())
+            .with("margins", judged.margins())
             .with("work", judged.found.work())
             .with("refusal", refusal)
             .with("error", error)

@@ -1,8 +1,8 @@
 //! The blocks of a file that is refused for one of them, as they say themselves.
 
-use usm::block::{account_of, Header, BLOCK_BYTES};
 use usm::numbers::grouped;
 use usm::{Form, Table};
+use usm_values::block::{account_of, Header, BLOCK_BYTES};
 
 use super::html::{text, Html};
 use super::marks::Marks;

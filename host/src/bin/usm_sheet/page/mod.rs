@@ -18,7 +18,6 @@ use std::ffi::{OsStr, OsString};
 use std::fs;
 use std::process::ExitCode;
 
-use usm::program::{self, shown};
 use usm::{Form, LONGEST_FILE};
 
 use crate::check::{judge, Tally};
@@ -27,6 +26,7 @@ use crate::found::Found;
 use crate::input::{is_sheet_file, read_into};
 use crate::inputs::same_file;
 use crate::make::write;
+use crate::program::{self, shown};
 use sheets::Told;
 
 /// Makes the page of these files. What could not be read is told on the page, too.

@@ -3,7 +3,6 @@
 use std::ffi::OsStr;
 
 use usm::numbers::{amount, grouped};
-use usm::program::shown;
 use usm::{Accepted, Sheet};
 
 use super::group::{group, placed_in};
@@ -11,6 +10,7 @@ use super::html::{all, element, text, words, Html};
 use super::legs::legs;
 use super::refused::refused;
 use crate::found::Found;
+use crate::program::shown;
 
 /// A file that was read or could not be, and its part of the page.
 pub struct Told {

@@ -1,5 +1,5 @@
 use borrow.Author.Needs.{needs}
-use Rattle.spreads.specs.Boxed.{withKind}
+use Rattle.spreads.specs.Steps.Boxed.{withKind}
 use Rattle.spreads.proofs.boxes.Kinds.with_leg.Statement.{statement}
 use Rattle.spreads.proofs.boxes.Kinds.with_leg.Tie as tie
 
