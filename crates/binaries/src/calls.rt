@@ -11,7 +11,7 @@ use crate::times::is_date;
 use records::{Fault, Refusal};
 
 // The margin in mills, or why there is none.
-#[derive(Drop)]
+#[derive(Clone, Copy)]
 pub enum Required {
     Mills(i64),
     Refused(Refusal),

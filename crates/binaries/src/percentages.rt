@@ -2,7 +2,7 @@
 ghost use Rattle.std.specs.Prelude.{◌≡◌, ◌<◌};
 ghost use Rattle.binaries.specs.Percentages.{tenths_at, row_of};
 
-#[derive(Drop)]
+#[derive(Clone, Copy)]
 pub enum Side {
     Long,
     Short,

@@ -5,7 +5,7 @@ ghost use Rattle.binaries.specs.Positions.{good_fields, offsets, matched_in};
 use crate::times::is_date;
 use records::MOST_CONTRACTS;
 
-#[derive(Drop)]
+#[derive(Clone, Copy)]
 pub struct Position {
     // the reference obligation
     pub reference: u64,
@@ -16,7 +16,7 @@ pub struct Position {
     pub contracts: u64,
 }
 
-#[derive(Drop)]
+#[derive(Clone, Copy)]
 pub struct LongPosition {
     pub position: Position,
     // in full

@@ -7,7 +7,7 @@ use crate::fields::{u16_in, u32_in, u64_in};
 use crate::limits::{MOST_GROUPS, MOST_MILLS, RECORD_BYTES};
 use crate::within::is_within;
 
-#[derive(Drop)]
+#[derive(Clone, Copy)]
 pub struct Claim {
     pub group: u16,
     // in mills

@@ -3,10 +3,10 @@
 ghost use Rattle.std.specs.Prelude.{◌≡◌};
 ghost use Rattle.records.specs.Legs.{contracts_from, units_of, plus_units, no_units, plus_contracts};
 
-#[derive(Drop)]
+#[derive(Clone, Copy)]
 pub struct Contracts(pub(crate) u32);
 
-#[derive(Drop)]
+#[derive(Clone, Copy)]
 pub struct Units(u64);
 
 impl Contracts {

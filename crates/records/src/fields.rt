@@ -56,7 +56,7 @@ pub fn u16_at(part: &[u8], at: usize) -> u16
 }
 
 // Four bytes, by value: a struct of bytes spares the proof an array.
-#[derive(Drop)]
+#[derive(Clone, Copy)]
 pub(crate) struct Four(pub(crate) u8, pub(crate) u8, pub(crate) u8, pub(crate) u8);
 
 // The bytes of a number, lowest first.

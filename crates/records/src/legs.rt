@@ -33,7 +33,7 @@ pub const CASH: u8 = 1;
 // 'paid mark': 0 or 1
 pub const PAID: u8 = 1;
 
-#[derive(Drop)]
+#[derive(Clone, Copy)]
 pub struct Leg {
     pub group: u16,
     // LONG or SHORT
@@ -120,7 +120,7 @@ pub fn leg_at(table: &[u8], i: usize) -> Leg
 }
 
 // The bytes of the fields that have four.
-#[derive(Drop)]
+#[derive(Clone, Copy)]
 struct WideFields {
     underlying: Four,
     strike: Four,

@@ -1,6 +1,6 @@
 // A refusal gives number, table (0 none, 1 holdings, 2 placement, 3 claims, 4 the day's fills, 5 the table of
 // roots, 6 the list of symbols) and place.
-#[derive(Drop)]
+#[derive(Clone, Copy)]
 pub struct Refusal {
     pub number: u8,
     pub table: u8,
@@ -8,7 +8,7 @@ pub struct Refusal {
 }
 
 // What a check finds: nothing to refuse, or the first refusal in the documents' order.
-#[derive(Drop)]
+#[derive(Clone, Copy)]
 pub enum Fault {
     Nothing,
     Is(Refusal),

@@ -21,7 +21,7 @@ use blocks::{BLOCK_BYTES, MOST_FILE_BYTES, Origin};
 use records::{Fault, Kind, MOST_CLAIMS, MOST_LEGS, RECORD_BYTES, Refusal};
 
 // The bytes of the sound file and the entries of the list, or why nothing is written.
-#[derive(Drop)]
+#[derive(Clone, Copy)]
 pub enum Salvaged {
     Saved(usize, usize),
     Refused(Refusal),

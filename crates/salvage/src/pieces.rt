@@ -9,7 +9,7 @@ ghost use Rattle.salvage.specs.Kept.{lead_of, same_origin, drop_number};
 use blocks::{Alone, BLOCK_BYTES, Origin};
 
 // The form and the account of the first piece that is sound by itself.
-#[derive(Drop)]
+#[derive(Clone, Copy)]
 pub enum Lead {
     Of(Origin),
     Missing,

@@ -11,7 +11,7 @@ use crate::pieces::{drop_number, piece_count};
 use blocks::{BLOCK_BYTES, Origin};
 
 // How many pieces are kept, and how many are dropped.
-#[derive(Drop)]
+#[derive(Clone, Copy)]
 pub(crate) struct Sorted {
     pub(crate) kept: usize,
     pub(crate) dropped: usize,

@@ -32,7 +32,7 @@ pub(crate) fn bucket_of(leg: Leg) -> usize
 
 // A line and side as one number in two words, whose digits to the base 8, those of the low word first, say which way to
 // go. Lines and sides in range that differ do so in one of 34 digits, so that no search looks at more than 35 records.
-#[derive(Drop)]
+#[derive(Clone, Copy)]
 pub(crate) struct Digits {
     pub(crate) low: u64,
     pub(crate) high: u64,

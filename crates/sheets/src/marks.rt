@@ -14,7 +14,7 @@ use records::{Counted, Fault, Kind, LONG, Leg, PAID, RECORD_BYTES, Refusal, SHOR
 const PAID_AT: usize = 25;
 
 // How many marks were set, or why nothing was.
-#[derive(Drop)]
+#[derive(Clone, Copy)]
 pub enum Marked {
     Marks(usize),
     Refused(Refusal),

@@ -5,7 +5,7 @@ ghost use Rattle.std.specs.Prelude.{◌≡◌, eqb, length, get_or, set, ◌+◌
 
 use records::Contracts;
 
-#[derive(Drop)]
+#[derive(Clone, Copy)]
 pub(crate) struct ContractSum(u64);
 
 impl ContractSum {

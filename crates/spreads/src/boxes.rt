@@ -9,14 +9,14 @@ use crate::members::member;
 use records::{CALL, EUROPEAN, LONG, Leg, PUT, SHORT, Units};
 
 // The units of a long box, or that there is none.
-#[derive(Drop)]
+#[derive(Clone, Copy)]
 pub enum Boxed {
     Units(u64),
     Not,
 }
 
 // The units of the four kinds, of legs that all fit: each right and side has one strike.
-#[derive(Drop)]
+#[derive(Clone, Copy)]
 pub struct Kinds {
     calls: Sides,
     puts: Sides,

@@ -11,7 +11,7 @@ use crate::strikes::list_strikes;
 use records::Fault;
 
 // How many legs and how many distinct strikes a group has, and the first refusal; none where it is a spread.
-#[derive(Drop)]
+#[derive(Clone, Copy)]
 pub struct Found {
     pub legs: usize,
     pub strikes: usize,

@@ -14,7 +14,7 @@ use crate::roots::{ROOT_BYTES, find_terms, root_fault, terms_of};
 use records::{Fault, Kind, MOST_LEGS, PAID, RECORD_BYTES, Refusal};
 
 // How many bytes the list has, or why none was made.
-#[derive(Drop)]
+#[derive(Clone, Copy)]
 pub enum Exported {
     Bytes(usize),
     Refused(Refusal),
@@ -24,7 +24,7 @@ pub enum Exported {
 const LINE_ROOM: usize = LONGEST_LINE * MOST_LEGS;
 
 // The number that a record is refused with, or 0, and the index past its line.
-#[derive(Drop)]
+#[derive(Clone, Copy)]
 pub struct Taken {
     pub number: u8,
     pub next: usize,

@@ -13,7 +13,7 @@ use crate::roots::{ROOT_BYTES, find_name, root_fault, terms_at};
 use records::{Fault, Kind, MOST_LEGS, RECORD_BYTES, Refusal};
 
 // How many records were made, or why none was.
-#[derive(Drop)]
+#[derive(Clone, Copy)]
 pub enum Imported {
     Records(usize),
     Refused(Refusal),

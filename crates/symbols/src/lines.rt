@@ -18,7 +18,7 @@ pub(crate) const LONGEST_LINE: usize = 31;
 pub(crate) const LIST_TABLE: u8 = 6;
 
 // What a line says besides its root.
-#[derive(Drop)]
+#[derive(Clone, Copy)]
 pub struct Line {
     pub right: u8,
     pub expiry: u32,

@@ -15,7 +15,7 @@ const MOST_ROOTS: usize = 256;
 const ROOTS_TABLE: u8 = 5;
 
 // What a root stands for.
-#[derive(Drop)]
+#[derive(Clone, Copy)]
 pub struct Terms {
     pub style: u8,
     pub market: u8,

@@ -1,6 +1,7 @@
 // The calls of the library for C and Rust. Slices pass as a pointer and a length. The answer of every
 // call but the last two is four words: 0 and the results, or a refusal's number, table and place, and 0;
 // the first of them is returned, too. No public function has a `requires`.
+#![tactic(auto)]
 ghost use Rattle.std.specs.Prelude.{◌≡◌, length};
 ghost use Rattle.records.specs.Written.{put_at};
 ghost use Rattle.records.specs.declared.tables.Kind.TheVariants.{Holdings, Placement, Claims};
