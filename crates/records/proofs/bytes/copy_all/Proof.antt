@@ -8,29 +8,29 @@ use Rattle.records.proofs.PutLaws.{put_none, put_more, put_all}
 use Rattle.records.proofs.bytes.copy_all.Statement.{statement}
 use Rattle.records.proofs.bytes.copy_all.Tie as tie
 
-abbrev invariant-loop : tie.invariant-loop
+abbrev invariant-loop : tie.invariant-loop-i
 invariant-loop to₀ at from i₀ to i = (i ≤ length from) × (length to ≡ length to₀) × (to ≡ put_at to₀ at (take i from))
 
-abbrev decreases-loop : tie.decreases-loop
+abbrev decreases-loop : tie.decreases-loop-i
 decreases-loop to₀ at from i₀ to i = length from - i
 
-loop-holds : tie.Need-loop-init invariant-loop decreases-loop
+loop-holds : tie.Need-loop-i-init invariant-loop decreases-loop
 loop-holds c = (search rules, refl, put_none c.args.to.now c.args.at c.args.from.now)
 
-loop-again : tie.Need-loop-preserved invariant-loop decreases-loop
+loop-again : tie.Need-loop-i-preserved invariant-loop decreases-loop
 loop-again c =
-    let l = c.before.before.loop in
+    let l = c.before.before.loop-i in
     let a = c.before.before.before.args in
     (search rules, simp length-set l.invariant.1, rw l.invariant.2 (put_more 0 a.to.now a.at a.from.now l.i (omega arith) (omega arith)))
 
 returns : tie.Need-returns invariant-loop decreases-loop
 returns c =
-    let l = c.before.loop in
+    let l = c.before.loop-i in
     let a = c.before.before.args in
     l.invariant.2 ∙ put_all a.to.now a.at a.from.now l.i (omega arith)
 
-pub copy-all-spec : {M : Type 1} → statement M
-copy-all-spec =
+pub copy_all_spec : {M : Type 1} → statement M
+copy_all_spec =
     tie.close
     (tie.spec
     invariant-loop

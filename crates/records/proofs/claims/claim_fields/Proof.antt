@@ -5,7 +5,7 @@ use Rattle.records.proofs.claims.claim_fields.Tie as tie
 
 returns : tie.Need-returns
 unfolding claim_fields
-returns c = rw (c.before.u16-in.ensures, c.u64-in.ensures)
+returns c = rw (c.before.u16_in.ensures, c.u64_in.ensures)
 
-pub claim-fields-spec : {M : Type 1} → statement M
-claim-fields-spec = tie.close (tie.spec (λ c κs. search rules) (λ c κs. search rules) returns)
+pub claim_fields_spec : {M : Type 1} → statement M
+claim_fields_spec = tie.close (tie.spec (λ c κs. search rules) (λ c κs. search rules) returns)

@@ -5,8 +5,8 @@ use Rattle.records.proofs.dates.real_date.Tie as tie
 
 returns : tie.Need-returns
 unfolding real_date
-returns c = rw (c.good-day.ensures, c.before.is_Within.ensures)
+returns c = rw (c.good_day.ensures, c.before.is_within.ensures)
 
-pub real-date-spec : {M : Type 1} → statement M
-real-date-spec =
+pub real_date_spec : {M : Type 1} → statement M
+real_date_spec =
     tie.close (tie.spec (λ c κs. search rules) (λ c κs. search rules) returns)

@@ -7,8 +7,8 @@ returns : tie.Need-returns
 unfolding le_at
 returns c = search rules
 
-pub u16-in-spec : {M : Type 1} → statement M
-u16-in-spec =
+pub u16_in_spec : {M : Type 1} → statement M
+u16_in_spec =
     tie.close
     (tie.spec
     (λ c. search rules)

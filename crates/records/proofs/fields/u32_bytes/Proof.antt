@@ -8,5 +8,5 @@ returns : tie.Need-returns
 unfolding le_bytes
 returns c = refl
 
-pub u32-bytes-spec : {M : Type 1} → statement M
-u32-bytes-spec = tie.close (tie.spec (λ c. search rules) (λ c. search rules) (λ c. search rules) (λ c. search rules) returns)
+pub u32_bytes_spec : {M : Type 1} → statement M
+u32_bytes_spec = tie.close (tie.spec (λ c. search rules) (λ c. search rules) (λ c. search rules) (λ c. search rules) returns)

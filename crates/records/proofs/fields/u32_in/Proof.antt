@@ -9,8 +9,8 @@ returns c =
     let a = c.before.before.before.args in
     omega (arith, le_at_split a.part.now 2 2 a.at)
 
-pub u32-in-spec : {M : Type 1} → statement M
-u32-in-spec =
+pub u32_in_spec : {M : Type 1} → statement M
+u32_in_spec =
     tie.close
     (tie.spec
     (λ c κs. search rules)

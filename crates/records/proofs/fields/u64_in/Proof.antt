@@ -9,8 +9,8 @@ returns c =
     let a = c.before.before.before.args in
     omega (arith, le_at_split a.part.now 4 4 a.at)
 
-pub u64-in-spec : {M : Type 1} → statement M
-u64-in-spec =
+pub u64_in_spec : {M : Type 1} → statement M
+u64_in_spec =
     tie.close
     (tie.spec
     (λ c κs. search rules)

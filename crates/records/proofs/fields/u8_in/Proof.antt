@@ -7,5 +7,5 @@ returns : tie.Need-returns
 unfolding le_at
 returns c = search rules
 
-pub u8-in-spec : {M : Type 1} → statement M
-u8-in-spec = tie.close (tie.spec (λ c. search rules) returns)
+pub u8_in_spec : {M : Type 1} → statement M
+u8_in_spec = tie.close (tie.spec (λ c. search rules) returns)

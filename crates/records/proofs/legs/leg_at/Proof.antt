@@ -7,21 +7,21 @@ use Rattle.records.proofs.ChunkLaws.{part_is, record_whole, record_past}
 use Rattle.records.proofs.legs.leg_at.Statement.{statement}
 use Rattle.records.proofs.legs.leg_at.Tie as tie
 
-returns : tie.Need-returns
+returns : tie.Need-returns-then-i-table
 unfolding leg_of
 returns c =
     let t = c.before.before in
     let a = t.before.before.args in
-    rw (le-leb 32 _ (record_whole a.table.now a.i (omega arith))) (rw (part_is 32) at c.leg-fields.ensures)
+    rw (le-leb 32 _ (record_whole a.table.now a.i (omega arith))) (rw (part_is 32) at c.leg_fields.ensures)
 
-returns-2 : tie.Need-returns-2
+returns-2 : tie.Need-returns
 unfolding leg_of leg_fields le_at
 returns-2 c =
     let a = c.before.before.args in
     rw (lt-leb 32 _ (record_past a.table.now a.i (omega arith)))
 
-pub leg-at-spec : {M : Type 1} → statement M
-leg-at-spec =
+pub leg_at_spec : {M : Type 1} → statement M
+leg_at_spec =
     tie.close
     (tie.spec
     (λ c. search rules)

@@ -16,9 +16,9 @@ unfolding leg_bytes
 returns c =
     let w = c.before.before.before.before in
     let l = w.before.args.leg in
-    let e = w.wide-fields.ensures in
+    let e = w.wide_fields-wide.ensures in
     rw (two l.group, two l.size, ← e.0.0, ← e.0.1, ← e.1.0, ← e.1.1)
 
-pub leg-bytes-spec : {M : Type 1} → statement M
-leg-bytes-spec =
+pub leg_bytes_spec : {M : Type 1} → statement M
+leg_bytes_spec =
     tie.close (tie.spec (λ c κs. search rules) (λ c. search rules) (λ c. search rules) (λ c. search rules) (λ c. search rules) returns)

@@ -5,10 +5,10 @@ use Rattle.records.proofs.legs.rest_in_range.Tie as tie
 returns : tie.Need-returns
 returns c =
     let n = c.before.before.before.before in
-    rw (c.is-within3.ensures, c.before.before.is-within2.ensures, n.is_Within.ensures, n.before.number.ensures)
+    rw (c.is_within-3.ensures, c.before.before.is_within-2.ensures, n.is_within.ensures, n.before.number.ensures)
 
-pub rest-in-range-spec : {M : Type 1} → statement M
-rest-in-range-spec =
+pub rest_in_range_spec : {M : Type 1} → statement M
+rest_in_range_spec =
     tie.close
     (tie.spec
     (λ c κs. search rules)

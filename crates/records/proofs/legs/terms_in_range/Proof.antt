@@ -9,18 +9,18 @@ returns c =
     let w = c.before.before in
     let v = w.before.before.before.before.before.before in
     rw (
-      c.is-within8.ensures,
-      c.before.is-within7.ensures,
-      w.is-within6.ensures,
-      w.before.before.is-within5.ensures,
-      w.before.before.before.before.is-within4.ensures,
-      v.is-within3.ensures,
-      v.before.before.is-within2.ensures,
-      v.before.before.before.before.is_Within.ensures,
+      c.is_within-8.ensures,
+      c.before.is_within-7.ensures,
+      w.is_within-6.ensures,
+      w.before.before.is_within-5.ensures,
+      w.before.before.before.before.is_within-4.ensures,
+      v.is_within-3.ensures,
+      v.before.before.is_within-2.ensures,
+      v.before.before.before.before.is_within.ensures,
     )
 
-pub terms-in-range-spec : {M : Type 1} → statement M
-terms-in-range-spec =
+pub terms_in_range_spec : {M : Type 1} → statement M
+terms_in_range_spec =
     tie.close
     (tie.spec
     (λ c. search rules)

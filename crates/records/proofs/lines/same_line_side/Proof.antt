@@ -8,5 +8,5 @@ returns : tie.Need-returns
 unfolding same_line same_line_side same
 returns c = rw c.same_line.ensures
 
-pub same-line-side-spec : {M : Type 1} → statement M
-same-line-side-spec = tie.close (tie.spec (λ c κs. search rules) returns)
+pub same_line_side_spec : {M : Type 1} → statement M
+same_line_side_spec = tie.close (tie.spec (λ c κs. search rules) returns)

@@ -5,24 +5,24 @@ use borrow.Author.Rules.{rules}
 use Rattle.records.proofs.tables.check_table.Statement.{statement}
 use Rattle.records.proofs.tables.check_table.Tie as tie
 
-returns : tie.Need-returns
+returns : tie.Need-returns-in-Nothing
 unfolding check_call table_checks first_of
 returns c =
-    let f = c.before.before in
-    rw (sym f.before.before.whole_table.ensures ∙ f.before.if1.true, sym f.field-fault.ensures ∙ c.enum_told.given.1)
+    let f = c.before in
+    rw (sym f.before.before.whole_table.ensures ∙ f.before.if-whole_table.true, sym f.field_fault.ensures ∙ c.in-Nothing.is)
 
-returns-2 : tie.Need-returns-2
+returns-2 : tie.Need-returns-in-Is
 unfolding check_call table_checks first_of
 returns-2 c =
-    let f = c.before.before.before in
-    rw (sym f.before.before.whole_table.ensures ∙ f.before.if1.true, sym f.field-fault.ensures ∙ c.before.refusal.given.1)
+    let f = c.before in
+    rw (sym f.before.before.whole_table.ensures ∙ f.before.if-whole_table.true, sym f.field_fault.ensures ∙ c.in-Is.is)
 
-returns-3 : tie.Need-returns-3
+returns-3 : tie.Need-returns-else-whole_table
 unfolding check_call table_checks first_of
-returns-3 c = rw (sym c.before.whole_table.ensures ∙ c.if1.false)
+returns-3 c = rw (sym c.before.whole_table.ensures ∙ c.if-whole_table.false)
 
-pub check-table-spec : {M : Type 1} → statement M
-check-table-spec =
+pub check_table_spec : {M : Type 1} → statement M
+check_table_spec =
     tie.close
     (tie.spec
     (λ c κs. search rules)

@@ -7,5 +7,5 @@ returns : tie.Need-returns
 unfolding with_paid
 returns c = refl
 
-pub with-paid-spec : {M : Type 1} → statement M
-with-paid-spec = tie.close (tie.spec returns)
+pub with_paid_spec : {M : Type 1} → statement M
+with_paid_spec = tie.close (tie.spec returns)
