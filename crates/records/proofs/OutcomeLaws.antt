@@ -17,11 +17,11 @@ both_same o p d e = rw d (rw e refl)
 -- an argument that the call cannot change leaves nothing to show
 abbrev last_same : {D : Type 0} (e : Exit D) (x : D) → Last e x → Last e x → List (Type 0)
 last_same unchanged x v w = []
-last_same (leaves _ _ _ _) x v w = (v ≡ w) ∷ []
+last_same (leaves _ _ _ _ _) x v w = (v ≡ w) ∷ []
 
 last_same_lem : {D : Type 0} (e : Exit D) (x : D) (v w : Last e x) → AllOf (last_same e x v w) → v ≡ w
 last_same_lem unchanged x v w h = refl
-last_same_lem (leaves _ _ _ _) x v w h = h
+last_same_lem (leaves _ _ _ _ _) x v w h = h
 
 module _ {n : ℕ} (κs : Lfts n) where
   abbrev lasts_same : (ss : List (Slot n)) (ks : Kepts ss) (a : Denots (types_at ss κs)) → Fins κs ss ks a → Fins κs ss ks a → List (Type 0)
