@@ -10,22 +10,22 @@ use Rattle.binaries.proofs.AnswerLaws.{single_clear}
 use Rattle.binaries.proofs.calls.binary_margin.Statement.{statement}
 use Rattle.binaries.proofs.calls.binary_margin.Tie as tie
 
-margin-of-requires : tie.Need-margin-of-requires
+margin-of-requires : tie.Need-margin_of-requires
 margin-of-requires c κs =
-    single_clear _ _ _ _ (sym c.before.before.single-fault.ensures ∙ c.enum_told.given.1)
+    single_clear _ _ _ _ (sym c.before.single_fault.ensures ∙ c.in-Nothing.is)
 
-returns : tie.Need-returns
+returns : tie.Need-returns-in-Is
 unfolding single_call
-returns c = rw (sym c.before.before.before.single-fault.ensures ∙ c.before.refusal.given.1)
+returns c = rw (sym c.before.single_fault.ensures ∙ c.in-Is.is)
 
-returns-2 : tie.Need-returns-2
+returns-2 : tie.Need-returns-in-Nothing
 unfolding single_call
 returns-2 c =
-    rw (sym c.before.before.before.single-fault.ensures ∙ c.before.enum_told.given.1)
-    (ap Mills (to_z_pos w64 (omega arith) ∙ ap pos c.margin-of.ensures.0))
+    rw (sym c.before.before.single_fault.ensures ∙ c.before.in-Nothing.is)
+    (ap Mills (to_z_pos w64 (omega arith) ∙ ap pos c.margin_of.ensures.0))
 
-pub binary-margin-spec : {M : Type 1} → statement M
-binary-margin-spec =
+pub binary_margin_spec : {M : Type 1} → statement M
+binary_margin_spec =
     tie.close
     (tie.spec
     (λ c κs. search rules)

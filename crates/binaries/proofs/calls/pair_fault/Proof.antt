@@ -5,36 +5,36 @@ use Rattle.binaries.specs.Calls.{pair_checks}
 use Rattle.binaries.proofs.calls.pair_fault.Statement.{statement}
 use Rattle.binaries.proofs.calls.pair_fault.Tie as tie
 
-returns : tie.Need-returns
+returns : tie.Need-returns-then-good_terms
 unfolding first_of pair_checks
 returns c =
     let t = c.before.before in
     let s = t.before in
     rw (
-      rw (s.before.good-terms.ensures, s.before.before.is-date.ensures) at s.if1.true,
-      sym t.good-terms2.ensures ∙ c.before.if2.true,
+      rw (s.before.good_terms.ensures, s.before.before.is_date.ensures) at s.if-is_date-good_terms.true,
+      sym t.good_terms-then-is_date-good_terms.ensures ∙ c.before.if-good_terms.true,
     )
-    c.expiries-fault.ensures
+    c.expiries_fault.ensures
 
-returns-2 : tie.Need-returns-2
+returns-2 : tie.Need-returns-then-is_date-good_terms
 unfolding first_of pair_checks
 returns-2 c =
     let t = c.before.before in
     let s = t.before in
     rw (
-      rw (s.before.good-terms.ensures, s.before.before.is-date.ensures) at s.if1.true,
-      sym t.good-terms2.ensures ∙ c.before.if2.false,
+      rw (s.before.good_terms.ensures, s.before.before.is_date.ensures) at s.if-is_date-good_terms.true,
+      sym t.good_terms-then-is_date-good_terms.ensures ∙ c.before.if-good_terms.false,
     )
-    c.field-fault.ensures
+    c.field_fault.ensures
 
-returns-3 : tie.Need-returns-3
+returns-3 : tie.Need-returns
 unfolding first_of pair_checks
 returns-3 c =
     let s = c.before in
-    rw (rw (s.before.good-terms.ensures, s.before.before.is-date.ensures) at s.if1.false) c.field-fault2.ensures
+    rw (rw (s.before.good_terms.ensures, s.before.before.is_date.ensures) at s.if-is_date-good_terms.false) c.field_fault-2.ensures
 
-pub pair-fault-spec : {M : Type 1} → statement M
-pair-fault-spec =
+pub pair_fault_spec : {M : Type 1} → statement M
+pair_fault_spec =
     tie.close
     (tie.spec
     (λ c κs. search rules)

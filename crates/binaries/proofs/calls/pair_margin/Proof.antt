@@ -10,22 +10,22 @@ use Rattle.binaries.proofs.AnswerLaws.{pair_clear}
 use Rattle.binaries.proofs.calls.pair_margin.Statement.{statement}
 use Rattle.binaries.proofs.calls.pair_margin.Tie as tie
 
-margin-of-pair-requires : tie.Need-margin-of-pair-requires
+margin-of-pair-requires : tie.Need-margin_of_pair-requires
 margin-of-pair-requires c κs =
-    pair_clear _ _ _ (sym c.before.before.pair-fault.ensures ∙ c.enum_told.given.1)
+    pair_clear _ _ _ (sym c.before.pair_fault.ensures ∙ c.in-Nothing.is)
 
-returns : tie.Need-returns
+returns : tie.Need-returns-in-Is
 unfolding pair_call
-returns c = rw (sym c.before.before.before.pair-fault.ensures ∙ c.before.refusal.given.1)
+returns c = rw (sym c.before.pair_fault.ensures ∙ c.in-Is.is)
 
-returns-2 : tie.Need-returns-2
+returns-2 : tie.Need-returns-in-Nothing
 unfolding pair_call
 returns-2 c =
-    rw (sym c.before.before.before.pair-fault.ensures ∙ c.before.enum_told.given.1)
-    (ap Mills (to_z_pos w64 (omega arith) ∙ ap pos c.margin-of-pair.ensures.0))
+    rw (sym c.before.before.pair_fault.ensures ∙ c.before.in-Nothing.is)
+    (ap Mills (to_z_pos w64 (omega arith) ∙ ap pos c.margin_of_pair.ensures.0))
 
-pub pair-margin-spec : {M : Type 1} → statement M
-pair-margin-spec =
+pub pair_margin_spec : {M : Type 1} → statement M
+pair_margin_spec =
     tie.close
     (tie.spec
     (λ c κs. search rules)

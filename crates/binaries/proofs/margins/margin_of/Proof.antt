@@ -18,11 +18,11 @@ returns c =
     let s = c.before.before.before.args in
     let m = margin_most s.side s.spread s.valuation s.expiry s.contracts c.before.before.before.requires.2 in
     let i = mills_is s.side s.spread s.valuation s.expiry s.contracts in
-    rw (c.tenths-at.ensures, c.before.column_of.ensures.0, c.before.before.row_of.ensures.0)
+    rw (c.tenths_at-tenths.ensures, c.before.column_of.ensures.0, c.before.before.row_of.ensures.0)
     (omega arith, omega (arith, side_most s.side))
 
-pub margin-of-spec : {M : Type 1} → statement M
-margin-of-spec =
+pub margin_of_spec : {M : Type 1} → statement M
+margin_of_spec =
     tie.close
     (tie.spec
     (λ c κs. search rules)

@@ -15,12 +15,12 @@ returns : tie.Need-returns
 unfolding pair_margin
 returns c =
     let first = c.before.before in (
-      rw (c.margin-of2.ensures.0, first.margin-of.ensures.0, first.before.before.matched-in.ensures),
-      omega (arith, c.margin-of2.ensures.1, first.margin-of.ensures.1),
+      rw (c.margin_of-2.ensures.0, first.margin_of.ensures.0, first.before.before.matched_in-matched.ensures),
+      omega (arith, c.margin_of-2.ensures.1, first.margin_of.ensures.1),
     )
 
-pub margin-of-pair-spec : {M : Type 1} → statement M
-margin-of-pair-spec =
+pub margin_of_pair_spec : {M : Type 1} → statement M
+margin_of_pair_spec =
     tie.close
     (tie.spec
     (λ c κs. search rules)

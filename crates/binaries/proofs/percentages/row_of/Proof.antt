@@ -4,35 +4,35 @@ use Rattle.binaries.specs.Percentages.{row_of}
 use Rattle.binaries.proofs.percentages.row_of.Statement.{statement}
 use Rattle.binaries.proofs.percentages.row_of.Tie as tie
 
-returns : tie.Need-returns
+returns : tie.Need-returns-then-spread-lt100
 unfolding row_of
-returns c = (simp (lt-ltb _ _ c.if1.true), omega arith)
+returns c = (simp (lt-ltb _ _ c.if-spread-lt100.true), omega arith)
 
-returns-2 : tie.Need-returns-2
+returns-2 : tie.Need-returns-then-spread-lt300
 unfolding row_of
-returns-2 c = (simp (le-ltb _ _ c.before.if1.false, lt-ltb _ _ c.if2.true), omega arith)
+returns-2 c = (simp (le-ltb _ _ c.before.if-spread-lt100.false, lt-ltb _ _ c.if-spread-lt300.true), omega arith)
 
-returns-3 : tie.Need-returns-3
+returns-3 : tie.Need-returns-then-spread-lt500
 unfolding row_of
 returns-3 c =
     let m = c.before in
-    (simp (le-ltb _ _ m.before.if1.false, le-ltb _ _ m.if2.false, lt-ltb _ _ c.if3.true), omega arith)
+    (simp (le-ltb _ _ m.before.if-spread-lt100.false, le-ltb _ _ m.if-spread-lt300.false, lt-ltb _ _ c.if-spread-lt500.true), omega arith)
 
-returns-4 : tie.Need-returns-4
+returns-4 : tie.Need-returns-then-spread-lt700
 unfolding row_of
 returns-4 c =
     let m = c.before.before in (
-      simp (le-ltb _ _ m.before.if1.false, le-ltb _ _ m.if2.false, le-ltb _ _ c.before.if3.false, lt-ltb _ _ c.if4.true),
+      simp (le-ltb _ _ m.before.if-spread-lt100.false, le-ltb _ _ m.if-spread-lt300.false, le-ltb _ _ c.before.if-spread-lt500.false, lt-ltb _ _ c.if-spread-lt700.true),
       omega arith,
     )
 
-returns-5 : tie.Need-returns-5
+returns-5 : tie.Need-returns
 unfolding row_of
 returns-5 c =
     let m = c.before.before in (
-      simp (le-ltb _ _ m.before.if1.false, le-ltb _ _ m.if2.false, le-ltb _ _ c.before.if3.false, le-ltb _ _ c.if4.false),
+      simp (le-ltb _ _ m.before.if-spread-lt100.false, le-ltb _ _ m.if-spread-lt300.false, le-ltb _ _ c.before.if-spread-lt500.false, le-ltb _ _ c.if-spread-lt700.false),
       omega arith,
     )
 
-pub row-of-spec : {M : Type 1} → statement M
-row-of-spec = tie.close (tie.spec returns returns-2 returns-3 returns-4 returns-5)
+pub row_of_spec : {M : Type 1} → statement M
+row_of_spec = tie.close (tie.spec returns returns-2 returns-3 returns-4 returns-5)

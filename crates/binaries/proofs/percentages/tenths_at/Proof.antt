@@ -3,16 +3,16 @@ use Rattle.binaries.specs.Percentages.{cell_in}
 use Rattle.binaries.proofs.percentages.tenths_at.Statement.{statement}
 use Rattle.binaries.proofs.percentages.tenths_at.Tie as tie
 
-returns : tie.Need-returns
+returns : tie.Need-returns-in-Long
 unfolding cell_in
 returns c = rw c.before.enum_told.given.1
 
-returns-2 : tie.Need-returns-2
+returns-2 : tie.Need-returns-in-Short
 unfolding cell_in
 returns-2 c = rw c.before.enum-told2.given.1
 
-pub tenths-at-spec : {M : Type 1} → statement M
-tenths-at-spec =
+pub tenths_at_spec : {M : Type 1} → statement M
+tenths_at_spec =
     tie.close
     (tie.spec
     (λ c. search rules)

@@ -4,13 +4,13 @@ use Rattle.binaries.specs.Positions.{matched_in}
 use Rattle.binaries.proofs.positions.matched_in.Statement.{statement}
 use Rattle.binaries.proofs.positions.matched_in.Tie as tie
 
-returns : tie.Need-returns
+returns : tie.Need-returns-then-offsets
 unfolding matched_in
-returns c = rw (sym c.before.before.offsets.ensures ∙ c.before.if1.true) c.smaller.ensures
+returns c = rw (sym c.before.before.offsets.ensures ∙ c.before.if-offsets.true) c.smaller.ensures
 
-returns-2 : tie.Need-returns-2
+returns-2 : tie.Need-returns
 unfolding matched_in
-returns-2 c = rw (sym c.before.offsets.ensures ∙ c.if1.false)
+returns-2 c = rw (sym c.before.offsets.ensures ∙ c.if-offsets.false)
 
-pub matched-in-spec : {M : Type 1} → statement M
-matched-in-spec = tie.close (tie.spec (λ c κs. search rules) (λ c κs. search rules) returns returns-2)
+pub matched_in_spec : {M : Type 1} → statement M
+matched_in_spec = tie.close (tie.spec (λ c κs. search rules) (λ c κs. search rules) returns returns-2)

@@ -7,5 +7,5 @@ returns : tie.Need-returns
 unfolding offsets
 returns c = refl
 
-pub offsets-spec : {M : Type 1} → statement M
-offsets-spec = tie.close (tie.spec returns)
+pub offsets_spec : {M : Type 1} → statement M
+offsets_spec = tie.close (tie.spec returns)

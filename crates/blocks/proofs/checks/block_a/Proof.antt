@@ -8,10 +8,10 @@ returns c =
     let k = c.before in
     let h = k.before.before in
     let z = h.before.before.before in
-    rw (c.wrapped.ensures, z.requires.1, h.check-a.ensures, k.check-a2.ensures) (halves_a z.args.block.now z.requires.0)
+    rw (c.wrapped.ensures, z.requires.1, h.check_a-back.ensures, k.check_a-last.ensures) (halves_a z.args.block.now z.requires.0)
 
-pub block-a-spec : {M : Type 1} → statement M
-block-a-spec =
+pub block_a_spec : {M : Type 1} → statement M
+block_a_spec =
     tie.close
     (tie.spec
     (λ c. search rules)

@@ -11,10 +11,10 @@ returns c =
     let y = l.before.before in
     let x = y.before.before in
     let z = x.before.before.before in
-    rw (c.wrapped.ensures, z.requires.1, z.requires.2, x.check-b.ensures, y.check-b2.ensures, l.check-b3.ensures) (halves_b z.args.block.now z.requires.0)
+    rw (c.wrapped.ensures, z.requires.1, z.requires.2, x.check_b.ensures, y.check_b-2.ensures, l.check_b-last.ensures) (halves_b z.args.block.now z.requires.0)
 
-pub block-b-spec : {M : Type 1} → statement M
-block-b-spec =
+pub block_b_spec : {M : Type 1} → statement M
+block_b_spec =
     tie.close
     (tie.spec
     (λ c. search rules)

@@ -9,30 +9,30 @@ use Rattle.blocks.proofs.checks.check_a.Statement.{statement}
 use Rattle.blocks.proofs.checks.check_a.Tie as tie
 
 -- what is summed so far and the bytes left have the sum of all, but for what wraps
-abbrev invariant-loop : tie.invariant-loop
+abbrev invariant-loop : tie.invariant-loop-i
 invariant-loop s sum₀ i₀ sum i = (i ≤ length s) × (sum < 65536) × ((sum + byte_sum (drop i s)) % 65536 ≡ byte_sum s % 65536)
 
-abbrev decreases-loop : tie.decreases-loop
+abbrev decreases-loop : tie.decreases-loop-i
 decreases-loop s sum₀ i₀ sum i = length s - i
 
-loop-again : tie.Need-loop-preserved invariant-loop decreases-loop
+loop-again : tie.Need-loop-i-preserved invariant-loop decreases-loop
 loop-again c =
     let w = c.before in
     let l = w.before.before.before in
-    let y = byte_sum_next l.before.before.args.s.now l.loop.i w.before.before.loop-test.true in
+    let y = byte_sum_next l.before.before.args.s.now l.loop-i.i w.before.before.loop-i-test.true in
     let b = w.wide.ensures in
-    let e = c.wrapped.ensures in
-    (omega arith, omega arith, omega (arith, y, b, e, l.loop.invariant.2))
+    let e = c.wrapped-sum.ensures in
+    (omega arith, omega arith, omega (arith, y, b, e, l.loop-i.invariant.2))
 
 returns : tie.Need-returns invariant-loop decreases-loop
 unfolding check_a
 returns c =
     let l = c.before in
-    let x = byte_sum_none l.before.before.args.s.now l.loop.i (omega arith) in
+    let x = byte_sum_none l.before.before.args.s.now l.loop-i.i (omega arith) in
     omega arith
 
-pub check-a-spec : {M : Type 1} → statement M
-check-a-spec =
+pub check_a_spec : {M : Type 1} → statement M
+check_a_spec =
     tie.close
     (tie.spec
     invariant-loop

@@ -10,11 +10,11 @@ returns c =
     let s = b.before in
     let o = s.before.before.before.before in
     let z = o.before.before.before in
-    seal_put z.args.block.now o.zero-to.new.0 _ s.sums-of.result.a s.sums-of.result.b b.sum-bytes.result
-    z.requires o.zero-to.ensures s.sums-of.ensures.0 s.sums-of.ensures.1 b.sum-bytes.ensures w.copy-to.ensures
+    seal_put z.args.block.now o.zero_to.new.0 _ s.sums_of.result.a s.sums_of.result.b b.sum_bytes-sums.result
+    z.requires o.zero_to.ensures s.sums_of.ensures.0 s.sums_of.ensures.1 b.sum_bytes-sums.ensures w.copy_to.ensures
 
-pub seal-spec : {M : Type 1} → statement M
-seal-spec =
+pub seal_spec : {M : Type 1} → statement M
+seal_spec =
     tie.close
     (tie.spec
     (λ c κs. search rules)

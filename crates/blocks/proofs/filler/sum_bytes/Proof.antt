@@ -8,5 +8,5 @@ returns : tie.Need-returns
 unfolding le_bytes
 returns c = refl
 
-pub sum-bytes-spec : {M : Type 1} → statement M
-sum-bytes-spec = tie.close (tie.spec (λ c. search rules) (λ c. search rules) (λ c. search rules) (λ c. search rules) returns)
+pub sum_bytes_spec : {M : Type 1} → statement M
+sum_bytes_spec = tie.close (tie.spec (λ c. search rules) (λ c. search rules) (λ c. search rules) (λ c. search rules) returns)

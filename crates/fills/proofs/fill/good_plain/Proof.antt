@@ -9,7 +9,7 @@ unfolding good_unpaid
 returns c =
     let l = c.before in
     let z = l.before.before.before in
-    rw (l.before.good-record.ensures, l.leg_at.ensures, first_record z.args.plain.now z.requires)
+    rw (l.before.good_record.ensures, l.leg_at.ensures, first_record z.args.plain.now z.requires)
 
-pub good-plain-spec : {M : Type 1} → statement M
-good-plain-spec = tie.close (tie.spec (λ c κs. search rules) (λ c κs. search rules) returns)
+pub good_plain_spec : {M : Type 1} → statement M
+good_plain_spec = tie.close (tie.spec (λ c κs. search rules) (λ c κs. search rules) returns)

@@ -9,8 +9,8 @@ returns : tie.Need-returns
 unfolding bucket_of
 returns c = (refl, omega arith)
 
-pub bucket-of-spec : {M : Type 1} → statement M
-bucket-of-spec =
+pub bucket_of_spec : {M : Type 1} → statement M
+bucket_of_spec =
     tie.close
     (tie.spec
     (λ c. search rules)

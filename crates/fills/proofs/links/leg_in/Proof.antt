@@ -5,15 +5,15 @@ use borrow.Author.Rules.{rules}
 use Rattle.fills.proofs.links.leg_in.Statement.{statement}
 use Rattle.fills.proofs.links.leg_in.Tie as tie
 
-returns : tie.Need-returns
+returns : tie.Need-returns-then-k-before
 unfolding leg_in_play unmarked
 returns c =
     let l = c.before in
-    rw (lt-ltb _ _ l.before.if1.true) (rw l.leg_at.ensures at c.with-paid.ensures)
+    rw (lt-ltb _ _ l.before.if-k-before.true) (rw l.leg_at.ensures at c.with_paid.ensures)
 
-returns-2 : tie.Need-returns-2
+returns-2 : tie.Need-returns
 unfolding leg_in_play
-returns-2 c = rw (le-ltb _ _ c.before.if1.false) c.leg-at2.ensures
+returns-2 c = rw (le-ltb _ _ c.before.if-k-before.false) c.leg_at-2.ensures
 
-pub leg-in-spec : {M : Type 1} → statement M
-leg-in-spec = tie.close (tie.spec (λ c κs. search rules) (λ c κs. search rules) returns (λ c κs. search rules) returns-2)
+pub leg_in_spec : {M : Type 1} → statement M
+leg_in_spec = tie.close (tie.spec (λ c κs. search rules) (λ c κs. search rules) returns (λ c κs. search rules) returns-2)

@@ -14,33 +14,33 @@ use Rattle.fills.proofs.BytesLaws.{bytes_one}
 use Rattle.fills.proofs.rows.put_record.Statement.{statement}
 use Rattle.fills.proofs.rows.put_record.Tie as tie
 
-abbrev start : tie.Else1 → tie.Start
+abbrev start : tie.Else-held-k-eq0 → tie.Start
 start e = e.before.before.before.before.before.before
 
-fits : (e : tie.Else1) → let a = (start e).args in 32 * (a.out + 1) ≤ length a.result.now
-fits e = rw (ne_eqb _ 0 e.if1.false) at (start e).requires.1
+fits : (e : tie.Else-held-k-eq0) → let a = (start e).args in 32 * (a.out + 1) ≤ length a.result.now
+fits e = rw (ne_eqb _ 0 e.if-held-k-eq0.false) at (start e).requires.1
 
 -- the row of the record
-row : (w : tie.After-with-contracts)
+row : (w : tie.After-with_contracts-leg)
     → (let a = (start w.before.before.before.before).args in
-    w.with-contracts.result ≡ with_contracts (leg_in_play a.holdings.now a.fills.now a.k) (contracts_from (get_or a.held.now a.k 0)))
-row w = rw (w.before.of.ensures, w.before.before.before.leg-in.ensures) at w.with-contracts.ensures
+    w.with_contracts-leg.result ≡ with_contracts (leg_in_play a.holdings.now a.fills.now a.k) (contracts_from (get_or a.held.now a.k 0)))
+row w = rw (w.before.of.ensures, w.before.before.before.leg_in.ensures) at w.with_contracts-leg.ensures
 
-returns : tie.Need-returns
+returns : tie.Need-returns-then-held-k-eq0
 unfolding bytes_of
-returns c = rw c.if1.true (omega arith, put_none _ _ [])
+returns c = rw c.if-held-k-eq0.true (omega arith, put_none _ _ [])
 
-returns-2 : tie.Need-returns-2
+returns-2 : tie.Need-returns
 returns-2 c =
     let p = c.before.before in
     let w = p.before.before in
     let e = w.before.before.before.before in
     let a = (start e).args in
-    rw (ne_eqb (get_or a.held.now a.k 0) 0 e.if1.false)
-    (refl, p.put-row.ensures ∙ ap (put_at a.result.now (32 * a.out)) (ap leg_bytes (row w) ∙ sym (bytes_one _)))
+    rw (ne_eqb (get_or a.held.now a.k 0) 0 e.if-held-k-eq0.false)
+    (refl, p.put_row.ensures ∙ ap (put_at a.result.now (32 * a.out)) (ap leg_bytes (row w) ∙ sym (bytes_one _)))
 
-pub put-record-spec : {M : Type 1} → statement M
-put-record-spec =
+pub put_record_spec : {M : Type 1} → statement M
+put_record_spec =
     tie.close
     (tie.spec
     (λ c. omega arith)

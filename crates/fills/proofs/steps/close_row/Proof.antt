@@ -10,93 +10,93 @@ use Rattle.fills.proofs.StandLaws.{link_small}
 use Rattle.fills.proofs.steps.close_row.Statement.{statement}
 use Rattle.fills.proofs.steps.close_row.Tie as tie
 
-abbrev start : tie.After-link-of → tie.Start
+abbrev start : tie.After-link_of-link → tie.Start
 start f = f.before.before.before.before.before.before.before
 
-link-of-requires : tie.Need-link-of-requires
+link-of-requires : tie.Need-link_of-link-requires
 link-of-requires c κs =
     let z = c.before.before.before.before.before.before in
     let s = z.requires.0 in
     ((s.held_room, s.links_room), λ l j t. (let r = s.rising l j t in (omega (arith, r.0, z.requires.1.0), r.1)))
 
 -- where the search ended
-ended : (f : tie.After-link-of)
+ended : (f : tie.After-link_of-link)
     → (let a = (start f).args in
     let leg = leg_in_play a.holdings.now a.fills.now in
-    Ended (is_row leg a.held.now (leg a.k)) a.links.now (bucket_of (leg a.k)) f.link-of.result)
-ended f = f.link-of.ensures
+    Ended (is_row leg a.held.now (leg a.k)) a.links.now (bucket_of (leg a.k)) f.link_of-link.result)
+ended f = f.link_of-link.ensures
 
-small : (f : tie.After-link-of) → (f.link-of.result < 2304) × (2304 ≤ length (start f).args.links.now)
+small : (f : tie.After-link_of-link) → (f.link_of-link.result < 2304) × (2304 ≤ length (start f).args.links.now)
 small f =
     let z = start f in
     (omega (arith, link_small z.pre.0 z.pre.1.0 _ (ended f).path, z.pre.1.0), z.pre.0.links_room)
 
-abbrev search-of : tie.Then1 → tie.After-link-of
+abbrev search-of : tie.Then-at-ne0 → tie.After-link_of-link
 search-of t = t.before.before.before.before
 
 -- the row that it ended at
-linked : (t : tie.Then1) → get_or (start (search-of t)).args.links.now (search-of t).link-of.result 0 ≡ suc (t.before.wide.result - 1)
+linked : (t : tie.Then-at-ne0) → get_or (start (search-of t)).args.links.now (search-of t).link_of-link.result 0 ≡ suc (t.before.wide-at.result - 1)
 linked t =
     let w = t.before in
-    let h = t.if1.true in
-    let q : w.wide.result ≡ suc (w.wide.result - 1) = omega arith in
-    sym w.wide.ensures ∙ q
+    let h = t.if-at-ne0.true in
+    let q : w.wide-at.result ≡ suc (w.wide-at.result - 1) = omega arith in
+    sym w.wide-at.ensures ∙ q
 
-row : (t : tie.Then1) → (t.before.wide.result - 1 < 1280) × (1280 ≤ length (start (search-of t)).args.held.now)
+row : (t : tie.Then-at-ne0) → (t.before.wide-at.result - 1 < 1280) × (1280 ≤ length (start (search-of t)).args.held.now)
 row t =
     let f = search-of t in
     let z = start f in
     (omega (arith, there z.pre.0 z.pre.1.0 z.pre.1.1 _ (ended f) _ (linked t), z.pre.1.0), z.pre.0.held_room)
 
-some : (t : tie.Then1) → 1 ≤ (start (search-of t)).args.n
+some : (t : tie.Then-at-ne0) → 1 ≤ (start (search-of t)).args.n
 some t =
     let f = search-of t in
     let z = start f in
     rows_held z.pre.0 z.pre.1.0 z.pre.1.1 _ (ended f) _ (linked t)
 
 -- what is taken
-taken : (m : tie.After-number)
+taken : (m : tie.After-number-taken)
     → (let a = (start (search-of m.before.before)).args in
-    m.number.result ≡ (leg_in_play a.holdings.now a.fills.now a.k).contracts.0)
+    m.number-taken.result ≡ (leg_in_play a.holdings.now a.fills.now a.k).contracts.0)
 taken m =
     let t = m.before.before in
-    m.number.ensures ∙ ap (λ (l : Leg). l.contracts.0) t.before.before.before.leg-in.ensures
+    m.number-taken.ensures ∙ ap (λ (l : Leg). l.contracts.0) t.before.before.before.leg_in.ensures
 
-returns : tie.Need-returns
+returns : tie.Need-returns-then-taken-lot
 returns c =
     let m = c.before in
     let t = m.before.before in
     let f = search-of t in
     let z = start f in
     let lot = get_or z.args.held.now (t.before.wide.result - 1) 0 in
-    take_some z.pre.0 z.pre.1.0 z.pre.1.1 _ (ended f) _ (linked t) _ (ap (λ (x : ℕ). lot - x) (taken m)) (rw (taken m) at c.if2.true)
+    take_some z.pre.0 z.pre.1.0 z.pre.1.1 _ (ended f) _ (linked t) _ (ap (λ (x : ℕ). lot - x) (taken m)) (rw (taken m) at c.if-taken-lot.true)
 
-returns-2 : tie.Need-returns-2
+returns-2 : tie.Need-returns-then-taken-lot-2
 returns-2 c =
     let t₃ = c.before in
     let m = t₃.before.before in
     let t = m.before.before in
     let f = search-of t in
     let z = start f in
-    take_all z.pre.0 z.pre.1.0 z.pre.1.1 _ (ended f) _ (linked t) (sym (taken m) ∙ t₃.if3.true)
+    take_all z.pre.0 z.pre.1.0 z.pre.1.1 _ (ended f) _ (linked t) (sym (taken m) ∙ t₃.if-taken-lot-2.true)
 
-returns-3 : tie.Need-returns-3
+returns-3 : tie.Need-returns-else-taken-lot-2
 returns-3 c =
     let m = c.before.before in
     let t = m.before.before in
     let f = search-of t in
     let z = start f in
-    take_past z.pre.0 z.pre.1.0 z.pre.1.1 _ (ended f) _ (linked t) (omega (arith, taken m, c.before.if2.false, c.if3.false))
+    take_past z.pre.0 z.pre.1.0 z.pre.1.1 _ (ended f) _ (linked t) (omega (arith, taken m, c.before.if-taken-lot.false, c.if-taken-lot-2.false))
 
-returns-4 : tie.Need-returns-4
+returns-4 : tie.Need-returns-else-at-ne0
 returns-4 c =
     let w = c.before in
     let f = w.before.before.before in
     let z = start f in
-    take_none z.pre.0 z.pre.1.0 z.pre.1.1 _ (ended f) (sym w.wide.ensures ∙ c.if1.false)
+    take_none z.pre.0 z.pre.1.0 z.pre.1.1 _ (ended f) (sym w.wide-at.ensures ∙ c.if-at-ne0.false)
 
-pub close-row-spec : {M : Type 1} → statement M
-close-row-spec =
+pub close_row_spec : {M : Type 1} → statement M
+close_row_spec =
     tie.close
     (tie.spec
     link-of-requires

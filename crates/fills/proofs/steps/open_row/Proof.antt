@@ -11,49 +11,49 @@ use Rattle.fills.proofs.StandLaws.{link_small}
 use Rattle.fills.proofs.steps.open_row.Statement.{statement}
 use Rattle.fills.proofs.steps.open_row.Tie as tie
 
-abbrev start : tie.After-link-of → tie.Start
+abbrev start : tie.After-link_of-link → tie.Start
 start f = f.before.before.before.before.before.before.before
 
-link-of-requires : tie.Need-link-of-requires
+link-of-requires : tie.Need-link_of-link-requires
 link-of-requires c κs =
     let z = c.before.before.before.before.before.before in
     let s = z.requires.0 in
     ((s.held_room, s.links_room), λ l j t. (let r = s.rising l j t in (omega (arith, r.0, z.requires.1.0), r.1)))
 
 -- where the search ended
-ended : (f : tie.After-link-of)
+ended : (f : tie.After-link_of-link)
     → (let a = (start f).args in
     let leg = leg_in_play a.holdings.now a.fills.now in
-    Ended (is_row leg a.held.now (leg a.k)) a.links.now (bucket_of (leg a.k)) f.link-of.result)
-ended f = f.link-of.ensures
+    Ended (is_row leg a.held.now (leg a.k)) a.links.now (bucket_of (leg a.k)) f.link_of-link.result)
+ended f = f.link_of-link.ensures
 
-small : (f : tie.After-link-of) → (f.link-of.result < 2304) × (2304 ≤ length (start f).args.links.now)
+small : (f : tie.After-link_of-link) → (f.link_of-link.result < 2304) × (2304 ≤ length (start f).args.links.now)
 small f =
     let z = start f in
     (omega (arith, link_small z.pre.0 z.pre.1.0 _ (ended f).path, z.pre.1.0), z.pre.0.links_room)
 
-abbrev search-of : tie.Then1 → tie.After-link-of
+abbrev search-of : tie.Then-at-ne0 → tie.After-link_of-link
 search-of t = t.before.before.before.before
 
 -- the row that it ended at
-linked : (t : tie.Then1) → get_or (start (search-of t)).args.links.now (search-of t).link-of.result 0 ≡ suc (t.before.wide.result - 1)
+linked : (t : tie.Then-at-ne0) → get_or (start (search-of t)).args.links.now (search-of t).link_of-link.result 0 ≡ suc (t.before.wide-at.result - 1)
 linked t =
     let w = t.before in
-    let h = t.if1.true in
-    let q : w.wide.result ≡ suc (w.wide.result - 1) = omega arith in
-    sym w.wide.ensures ∙ q
+    let h = t.if-at-ne0.true in
+    let q : w.wide-at.result ≡ suc (w.wide-at.result - 1) = omega arith in
+    sym w.wide-at.ensures ∙ q
 
-row : (t : tie.Then1) → (t.before.wide.result - 1 < 1280) × (1280 ≤ length (start (search-of t)).args.held.now)
+row : (t : tie.Then-at-ne0) → (t.before.wide-at.result - 1 < 1280) × (1280 ≤ length (start (search-of t)).args.held.now)
 row t =
     let f = search-of t in
     let z = start f in
     (omega (arith, there z.pre.0 z.pre.1.0 z.pre.1.1 _ (ended f) _ (linked t), z.pre.1.0), z.pre.0.held_room)
 
 -- the record itself
-fresh : (f : tie.After-link-of) → ((start f).args.k < 1280) × (1280 ≤ length (start f).args.held.now)
+fresh : (f : tie.After-link_of-link) → ((start f).args.k < 1280) × (1280 ≤ length (start f).args.held.now)
 fresh f = let z = start f in (z.pre.1.0, z.pre.0.held_room)
 
-returns : tie.Need-returns
+returns : tie.Need-returns-then-sum-le-MOST_CONTRACTS
 returns c =
     let m = c.before in
     let p = m.before in
@@ -64,11 +64,11 @@ returns c =
     let z = start f in
     let lot = get_or z.args.held.now (t.before.wide.result - 1) 0 in
     add_done z.pre.0 z.pre.1.0 z.pre.1.1 _ (ended f) _ (linked t) _
-    (sum_fits lot l.leg-in.result o.of.result p.plus.result m.number.result o.of.ensures p.plus.ensures m.number.ensures c.if2.true
-    ∙ ap (λ (x : Leg). lot + x.contracts.0) l.leg-in.ensures)
-    c.if2.true
+    (sum_fits lot l.leg_in.result o.of.result p.plus.result m.number-sum.result o.of.ensures p.plus.ensures m.number-sum.ensures c.if-sum-le-MOST_CONTRACTS.true
+    ∙ ap (λ (x : Leg). lot + x.contracts.0) l.leg_in.ensures)
+    c.if-sum-le-MOST_CONTRACTS.true
 
-returns-2 : tie.Need-returns-2
+returns-2 : tie.Need-returns-then-n-lt-MOST_LEGS
 returns-2 c =
     let t₃ = c.before in
     let e = t₃.before in
@@ -77,10 +77,10 @@ returns-2 c =
     let f = l.before in
     let z = start f in
     new_done z.pre.0 z.pre.1.0 z.pre.1.1 _ (ended f) (sym w.wide.ensures ∙ e.if1.false) t₃.if3.true _ _
-    (c.number2.ensures ∙ ap (λ (x : Leg). x.contracts.0) l.leg-in.ensures)
+    (c.number.ensures ∙ ap (λ (x : Leg). x.contracts.0) l.leg_in.ensures)
     (add-one _)
 
-returns-3 : tie.Need-returns-3
+returns-3 : tie.Need-returns-else-sum-le-MOST_CONTRACTS
 returns-3 c =
     let m = c.before in
     let p = m.before in
@@ -93,20 +93,20 @@ returns-3 c =
     add_past z.pre.0 z.pre.1.0 z.pre.1.1 _ (ended f) _ (linked t)
     (omega (
       arith,
-      sum_past lot l.leg-in.result o.of.result p.plus.result m.number.result o.of.ensures p.plus.ensures m.number.ensures c.if2.false,
-      ap (λ (x : Leg). x.contracts.0) l.leg-in.ensures,
+      sum_past lot l.leg_in.result o.of.result p.plus.result m.number-sum.result o.of.ensures p.plus.ensures m.number-sum.ensures c.if-sum-le-MOST_CONTRACTS.false,
+      ap (λ (x : Leg). x.contracts.0) l.leg_in.ensures,
     ))
 
-returns-4 : tie.Need-returns-4
+returns-4 : tie.Need-returns-else-n-lt-MOST_LEGS
 returns-4 c =
     let e = c.before in
     let w = e.before in
     let f = w.before.before.before in
     let z = start f in
-    new_full z.pre.0 z.pre.1.0 z.pre.1.1 _ (ended f) (sym w.wide.ensures ∙ e.if1.false) c.if3.false
+    new_full z.pre.0 z.pre.1.0 z.pre.1.1 _ (ended f) (sym w.wide-at.ensures ∙ e.if-at-ne0.false) c.if-n-lt-MOST_LEGS.false
 
-pub open-row-spec : {M : Type 1} → statement M
-open-row-spec =
+pub open_row_spec : {M : Type 1} → statement M
+open_row_spec =
     tie.close
     (tie.spec
     link-of-requires

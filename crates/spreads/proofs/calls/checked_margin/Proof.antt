@@ -11,37 +11,37 @@ use Rattle.spreads.proofs.FoundLaws.{found_legs, found_prices, found_group}
 use Rattle.spreads.proofs.calls.checked_margin.Statement.{statement}
 use Rattle.spreads.proofs.calls.checked_margin.Tie as tie
 
-array-share-prefix-members : tie.Need-array-share-prefix-members
+array-share-prefix-members : tie.Need-slice_bounds-members-end
 array-share-prefix-members c =
-    let f = c.before.before.before.before in
-    omega (arith, f.find-alone.ensures.few, c.before.before.before.members2.given)
+    let f = c.before.before.before in
+    omega (arith, f.find_alone-found.ensures.few, c.before.before.members-2-1.given)
 
-array-share-prefix-prices : tie.Need-array-share-prefix-prices
+array-share-prefix-prices : tie.Need-slice_bounds-prices-end
 array-share-prefix-prices c =
-    let p = c.before.before.before in
-    omega (arith, p.before.before.find-alone.ensures.few, p.prices2.given)
+    let p = c.before.before in
+    omega (arith, p.before.before.find_alone-found.ensures.few, p.prices-2-1.given)
 
-margin-at-requires : tie.Need-margin-at-requires
+margin-at-requires : tie.Need-margin_at-worked-requires
 margin-at-requires c κs =
-    let f = c.before.before.before.before.before.before in
-    let e = f.find-alone.ensures in
+    let f = c.before.before.before.before.before in
+    let e = f.find_alone-found.ensures in
     (found_group e f.before.before.before.before.requires, found_prices e)
 
-returns : tie.Need-returns
+returns : tie.Need-returns-in-Is
 returns c =
-    let f = c.before.before.before.before.before in
-    rw (sym f.find-alone.ensures.fault ∙ c.before.fault.given.1)
+    let f = c.before.before.before in
+    rw (sym f.find_alone-found.ensures.fault ∙ c.in-Is.is)
 
-returns-2 : tie.Need-returns-2
+returns-2 : tie.Need-returns-in-Nothing
 returns-2 c =
     let m = c.before in
     let t = m.before.before.before in
-    let e = t.before.before.before.before.find-alone.ensures in
-    rw (sym e.fault ∙ t.enum_told.given.1)
-    (ap Mills (to_z_pos w64 (omega (arith, m.margin_at.ensures.1)) ∙ ap pos (m.margin_at.ensures.0 ∙ ap margin_of (found_legs e))))
+    let e = t.before.before.before.find_alone-found.ensures in
+    rw (sym e.fault ∙ t.in-Nothing.is)
+    (ap Mills (to_z_pos w64 (omega (arith, m.margin_at-worked.ensures.1)) ∙ ap pos (m.margin_at-worked.ensures.0 ∙ ap margin_of (found_legs e))))
 
-pub checked-margin-spec : {M : Type 1} → statement M
-checked-margin-spec =
+pub checked_margin_spec : {M : Type 1} → statement M
+checked_margin_spec =
     tie.close
     (tie.spec
     (λ c. search rules)

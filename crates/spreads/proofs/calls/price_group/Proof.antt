@@ -9,49 +9,49 @@ use Rattle.spreads.proofs.FoundLaws.{ap_worked, found_legs, found_prices, found_
 use Rattle.spreads.proofs.calls.price_group.Statement.{statement}
 use Rattle.spreads.proofs.calls.price_group.Tie as tie
 
-abbrev found : tie.After-enum-told → tie.After-find-group
-found t = t.before.before.before.before.before.before
+abbrev found : tie.In-Nothing → tie.After-find_group-found
+found t = t.before.before.before.before.before
 
-abbrev start : tie.After-find-group → tie.Start
+abbrev start : tie.After-find_group-found → tie.Start
 start f = f.before.before.before.before.before.before.before
 
-slice-reshare-prefix-margin-at : tie.Need-slice-reshare-prefix-margin-at
-slice-reshare-prefix-margin-at c = omega (arith, (found c).find-group.ensures.few, c.before.before.before.before.before.members.given, (start (found c)).requires.1.1.0)
+slice-reshare-prefix-margin-at : tie.Need-slice_bounds-margin_at-end
+slice-reshare-prefix-margin-at c = omega (arith, (found c).find_group-found.ensures.few, c.before.before.before.before.members-1.given, (start (found c)).requires.1.1.0)
 
-slice-reshare-prefix-margin-at-2 : tie.Need-slice-reshare-prefix-margin-at-2
+slice-reshare-prefix-margin-at-2 : tie.Need-slice_bounds-margin_at-end-in-Nothing-2
 slice-reshare-prefix-margin-at-2 c =
-    let t = c.before in
-    omega (arith, (found t).find-group.ensures.few, t.before.before.before.prices.given, (start (found t)).requires.1.1.1)
+    let t = c in
+    omega (arith, (found t).find_group-found.ensures.few, t.before.before.before.prices.given, (start (found t)).requires.1.1.1)
 
-margin-at-requires : tie.Need-margin-at-requires
+margin-at-requires : tie.Need-margin_at-requires
 margin-at-requires c κs =
-    let f = found c.before.before in
-    let e = f.find-group.ensures in
+    let f = found c.before in
+    let e = f.find_group-found.ensures in
     (found_group e (start f).pre.0, found_prices e)
 
-returns : tie.Need-returns
+returns : tie.Need-returns-in-Is
 returns c =
-    let f = c.before.before.before.before.before.before.before in
-    rw (sym f.find-group.ensures.fault ∙ c.before.fault.given.1)
+    let f = c.before.before.before.before.before in
+    rw (sym f.find_group-found.ensures.fault ∙ c.in-Is.is)
 
-returns-2 : tie.Need-returns-2
+returns-2 : tie.Need-returns-in-Nothing
 returns-2 c =
-    let t = c.before.before.before in
-    let e = (found t).find-group.ensures in
+    let t = c.before.before in
+    let e = (found t).find_group-found.ensures in
     rw (sym e.fault ∙ t.enum_told.given.1)
     (ap For (ap_worked (c.margin_at.ensures.0 ∙ ap margin_of (found_legs e)) (c.margin_at.ensures.2 ∙ ap values_of (found_legs e))))
 
-pub price-group-spec : {M : Type 1} → statement M
-price-group-spec =
+pub price_group_spec : {M : Type 1} → statement M
+price_group_spec =
     tie.close
     (tie.spec
     (λ c κs. search rules)
     (λ c. search rules)
     (λ c. search rules)
     slice-reshare-prefix-margin-at
-    (λ c. sym (length-take-le _ _ (slice-reshare-prefix-margin-at c.before)))
+    (λ c. sym (length-take-le _ _ (slice-reshare-prefix-margin-at c)))
     slice-reshare-prefix-margin-at-2
-    (λ c. sym (length-take-le _ _ (slice-reshare-prefix-margin-at-2 c.before)))
+    (λ c. sym (length-take-le _ _ (slice-reshare-prefix-margin-at-2 c)))
     margin-at-requires
     (λ c. search rules)
     (λ c. search rules)

@@ -5,26 +5,26 @@ use Rattle.spreads.proofs.AnswerLaws.{table_checked, listed_stop, listed_then}
 use Rattle.spreads.proofs.calls.price_groups.Statement.{statement}
 use Rattle.spreads.proofs.calls.price_groups.Tie as tie
 
-checked-margins-requires : tie.Need-checked-margins-requires
+checked-margins-requires : tie.Need-checked_margins-requires
 checked-margins-requires c κs =
     let u = c.before in
-    table_checked _ u.before.before.check-table.ensures u.enum_told.given.1
+    table_checked _ u.before.check_table.ensures u.in-Records.is
 
-returns : tie.Need-returns
+returns : tie.Need-returns-in-Refused
 unfolding margins_call groups_checks
 returns c =
-    rw c.refused-price.ensures
-    (listed_stop _ c.before.before.before.before.check-table.ensures _ _ _ c.before.before.refusal.given.1, (refl, refl))
+    rw c.refused_price.ensures
+    (listed_stop _ c.before.before.check_table.ensures _ _ _ c.before.in-Refused.is, (refl, refl))
 
-returns-2 : tie.Need-returns-2
+returns-2 : tie.Need-returns-in-Records
 unfolding margins_call groups_checks
 returns-2 c =
     let m = c.before in
     let u = m.before.before in
-    (listed_then _ u.before.before.check-table.ensures _ _ _ u.enum_told.given.1 m.checked-margins.ensures.0, m.checked-margins.ensures.1)
+    (listed_then _ u.before.check_table.ensures _ _ _ u.in-Records.is m.checked_margins.ensures.0, m.checked_margins.ensures.1)
 
-pub price-groups-spec : {M : Type 1} → statement M
-price-groups-spec =
+pub price_groups_spec : {M : Type 1} → statement M
+price_groups_spec =
     tie.close
     (tie.spec
     (λ c κs. search rules)

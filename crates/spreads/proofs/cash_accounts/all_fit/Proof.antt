@@ -11,33 +11,33 @@ use Rattle.spreads.proofs.cash_accounts.all_fit.Statement.{statement}
 use Rattle.spreads.proofs.cash_accounts.all_fit.Tie as tie
 
 -- the first i legs fit
-abbrev invariant-loop : tie.invariant-loop
+abbrev invariant-loop : tie.invariant-loop-i
 invariant-loop placement members expiry i₀ i = Passed (fits_cash expiry) placement members i
 
-abbrev decreases-loop : tie.decreases-loop
+abbrev decreases-loop : tie.decreases-loop-i
 decreases-loop placement members expiry i₀ i = length members - i
 
-returns : tie.Need-returns invariant-loop decreases-loop
+returns : tie.Need-returns-then-not-fits_cash invariant-loop decreases-loop
 returns c =
     let m = c.before.before in
     let t = m.before in
-    passed_stop t.before.loop.invariant t.loop-test.true m.member.ensures (sym c.before.fits-cash.ensures ∙ not-true _ c.if1.true)
+    passed_stop t.before.loop-i.invariant t.loop-i-test.true m.member-leg.ensures (sym c.before.fits_cash.ensures ∙ not-true _ c.if-not-fits_cash.true)
 
 -- no group has so many legs
 add-i : tie.Need-overflow-add-i invariant-loop decreases-loop
 add-i c = omega (arith, members_many c.before.before.before.before.before.before.before.requires)
 
-loop-again : tie.Need-loop-preserved invariant-loop decreases-loop
+loop-again : tie.Need-loop-i-preserved invariant-loop decreases-loop
 loop-again c =
     let m = c.before.before in
     let t = m.before in
-    passed_more t.before.loop.invariant t.loop-test.true m.member.ensures (sym c.before.fits-cash.ensures ∙ not-false _ c.if1.false)
+    passed_more t.before.loop-i.invariant t.loop-i-test.true m.member-leg.ensures (sym c.before.fits_cash.ensures ∙ not-false _ c.if-not-fits_cash.false)
 
-returns-2 : tie.Need-returns-2 invariant-loop decreases-loop
-returns-2 c = passed_done c.before.loop.invariant c.loop-test.false
+returns-2 : tie.Need-returns invariant-loop decreases-loop
+returns-2 c = passed_done c.before.loop-i.invariant c.loop-i-test.false
 
-pub all-fit-spec : {M : Type 1} → statement M
-all-fit-spec =
+pub all_fit_spec : {M : Type 1} → statement M
+all_fit_spec =
     tie.close
     (tie.spec
     invariant-loop

@@ -10,38 +10,38 @@ use Rattle.spreads.proofs.FoundLaws.{found_legs, found_prices, found_group}
 use Rattle.spreads.proofs.cash_accounts.checked_cash.Statement.{statement}
 use Rattle.spreads.proofs.cash_accounts.checked_cash.Tie as tie
 
-array-share-prefix-members : tie.Need-array-share-prefix-members
+array-share-prefix-members : tie.Need-slice_bounds-members-end
 array-share-prefix-members c =
-    let f = c.before.before.before.before in
-    omega (arith, f.find-alone.ensures.few, c.before.before.before.members2.given)
+    let f = c.before.before.before in
+    omega (arith, f.find_alone-found.ensures.few, c.before.before.members-2-1.given)
 
-array-share-prefix-prices : tie.Need-array-share-prefix-prices
+array-share-prefix-prices : tie.Need-slice_bounds-prices-end
 array-share-prefix-prices c =
-    let p = c.before.before.before in
-    omega (arith, p.before.before.find-alone.ensures.few, p.prices2.given)
+    let p = c.before.before in
+    omega (arith, p.before.before.find_alone-found.ensures.few, p.prices-2-1.given)
 
-members-cash-requires : tie.Need-members-cash-requires
+members-cash-requires : tie.Need-members_cash-requires
 members-cash-requires c κs =
-    let f = c.before.before.before.before.before.before in
-    let e = f.find-alone.ensures in
+    let f = c.before.before.before.before.before in
+    let e = f.find_alone-found.ensures in
     (found_group e f.before.before.before.before.requires, found_prices e)
 
-returns : tie.Need-returns
+returns : tie.Need-returns-in-Is
 returns c =
-    let f = c.before.before.before.before.before in
-    cash_stop _ _ f.find-alone.ensures.fault _ c.before.fault.given.1
+    let f = c.before.before.before in
+    cash_stop _ _ f.find_alone-found.ensures.fault _ c.in-Is.is
 
-returns-2 : tie.Need-returns-2
+returns-2 : tie.Need-returns-in-Nothing
 returns-2 c =
     let t = c.before.before.before in
-    let f = t.before.before.before.before in
-    let e = f.find-alone.ensures in
+    let f = t.before.before.before in
+    let e = f.find_alone-found.ensures in
     let s = f.before.before.before.before.args in
-    cash_then _ _ e.fault _ t.enum_told.given.1
-    (c.members-cash.ensures ∙ ap (λ (legs : List Leg). cash_due s.g legs) (found_legs e))
+    cash_then _ _ e.fault _ t.in-Nothing.is
+    (c.members_cash.ensures ∙ ap (λ (legs : List Leg). cash_due s.g legs) (found_legs e))
 
-pub checked-cash-spec : {M : Type 1} → statement M
-checked-cash-spec =
+pub checked_cash_spec : {M : Type 1} → statement M
+checked_cash_spec =
     tie.close
     (tie.spec
     (λ c. search rules)

@@ -7,5 +7,5 @@ returns : tie.Need-returns
 unfolding fits_cash
 returns c = refl
 
-pub fits-cash-spec : {M : Type 1} → statement M
-fits-cash-spec = tie.close (tie.spec returns)
+pub fits_cash_spec : {M : Type 1} → statement M
+fits_cash_spec = tie.close (tie.spec returns)

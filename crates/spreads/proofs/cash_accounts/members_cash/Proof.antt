@@ -9,19 +9,19 @@ use Rattle.spreads.proofs.CashLaws.{fit_due, not_fit_due}
 use Rattle.spreads.proofs.cash_accounts.members_cash.Statement.{statement}
 use Rattle.spreads.proofs.cash_accounts.members_cash.Tie as tie
 
-returns : tie.Need-returns
+returns : tie.Need-returns-then-fit_for_cash
 returns c =
     let r = c.before in
     let t = r.before in
-    ap Mills (to_z_pos w64 (omega (arith, r.worst-at.ensures.1)) ∙ ap pos r.worst-at.ensures.0) ∙ fit_due _ _ (sym t.before.fit-for-cash.ensures ∙ t.if1.true)
+    ap Mills (to_z_pos w64 (omega (arith, r.worst_at.ensures.1)) ∙ ap pos r.worst_at.ensures.0) ∙ fit_due _ _ (sym t.before.fit_for_cash.ensures ∙ t.if-fit_for_cash.true)
 
-returns-2 : tie.Need-returns-2
+returns-2 : tie.Need-returns
 returns-2 c =
     let e = c.before in
-    rw c.table-number.ensures (not_fit_due _ _ (sym e.before.fit-for-cash.ensures ∙ e.if1.false))
+    rw c.table_number.ensures (not_fit_due _ _ (sym e.before.fit_for_cash.ensures ∙ e.if-fit_for_cash.false))
 
-pub members-cash-spec : {M : Type 1} → statement M
-members-cash-spec =
+pub members_cash_spec : {M : Type 1} → statement M
+members_cash_spec =
     tie.close
     (tie.spec
     (λ c κs. search rules)

@@ -10,51 +10,51 @@ use Rattle.spreads.proofs.MemberLaws.{members_are}
 use Rattle.spreads.proofs.group.find_group.Statement.{statement}
 use Rattle.spreads.proofs.group.find_group.Tie as tie
 
-abbrev start : tie.After-find-members → tie.Start
+abbrev start : tie.After-find_members-legs → tie.Start
 start f = f.before.before.before.before.before.before
 
 -- the legs have room in their list
-fits : (k : tie.After-slice-known3) → k.before.before.find-members.result ≤ length k.before.before.find-members.new.1.1.1.0
-fits k = let f = k.before.before in omega (arith, f.find-members.ensures.0, k.before.members.given, (start f).requires.1.1.0)
+fits : (k : tie.After-slice_known-3-1) → k.before.before.find_members-legs.result ≤ length k.before.before.find_members-legs.new.1.1.1.0
+fits k = let f = k.before.before in omega (arith, f.find-members.ensures.0, k.before.members-1.given, (start f).requires.1.1.0)
 
-list-strikes-requires : tie.Need-list-strikes-requires
+list-strikes-requires : tie.Need-list_strikes-strikes-requires
 list-strikes-requires c κs =
     let k = c.before.before in
     let f = k.before.before in
-    rw (length-take-le _ _ (fits k)) (omega (arith, f.find-members.ensures.0, (start f).requires.1.1.1))
+    rw (length-take-le _ _ (fits k)) (omega (arith, f.find_members.ensures.0, (start f).requires.1.1.1))
 
 -- no more strikes than legs, and as many as were counted
-few : (l : tie.After-list-strikes) → l.list-strikes.result ≤ 256
+few : (l : tie.After-list_strikes-strikes) → l.list_strikes-strikes.result ≤ 256
 few l =
     let k = l.before.before.before in
-    omega (arith, l.list-strikes.ensures.1.0, length-take-le k.before.before.find-members.result k.before.before.find-members.new.1.1.1.0 (fits k), k.before.before.find-members.ensures.0)
+    omega (arith, l.list_strikes-strikes.ensures.1.0, length-take-le k.before.before.find_members.result k.before.before.find_members.new.1.1.1.0 (fits k), k.before.before.find_members.ensures.0)
 
-counted : (l : tie.After-list-strikes)
+counted : (l : tie.After-list_strikes-strikes)
     → (let f = l.before.before.before.before.before in
-    l.list-strikes.result ≡ length (strikes_of (legs_at (start f).args.placement.now (take f.find-members.result f.find-members.new.1.1.1.0))))
+    l.list_strikes-strikes.result ≡ length (strikes_of (legs_at (start f).args.placement.now (take f.find_members.result f.find_members.new.1.1.1.0))))
 counted l =
     let f = l.before.before.before.before.before in
-    sym (length-take-le _ _ (omega (arith, few l, l.list-strikes.ensures.1.1, (start f).requires.1.1.1))) ∙ ap length l.list-strikes.ensures.0
+    sym (length-take-le _ _ (omega (arith, few l, l.list_strikes-strikes.ensures.1.1, (start f).requires.1.1.1))) ∙ ap length l.list_strikes-strikes.ensures.0
 
-members-fault-requires : tie.Need-members-fault-requires
+members-fault-requires : tie.Need-members_fault-fault-requires
 members-fault-requires c κs =
     let l = c.before.before.before in
     let f = l.before.before.before.before.before in
-    ((start f).requires.0, (f.find-members.ensures.1, counted l))
+    ((start f).requires.0, (f.find_members.ensures.1, counted l))
 
 returns : tie.Need-returns
 returns c =
     let l = c.before.before.before.before in
     let f = l.before.before.before.before.before in
     record {
-      members = f.find-members.ensures.1;
-      prices = l.list-strikes.ensures.0 ∙ ap strikes_of (members_are _ _ f.find-members.ensures.1);
-      few = (f.find-members.ensures.0, few l);
-      fault = c.members-fault.ensures;
+      members = f.find_members.ensures.1;
+      prices = l.list_strikes.ensures.0 ∙ ap strikes_of (members_are _ _ f.find_members.ensures.1);
+      few = (f.find_members.ensures.0, few l);
+      fault = c.members_fault-fault.ensures;
     }
 
-pub find-group-spec : {M : Type 1} → statement M
-find-group-spec =
+pub find_group_spec : {M : Type 1} → statement M
+find_group_spec =
     tie.close
     (tie.spec
     (λ c κs. search rules)

@@ -6,22 +6,22 @@ use Rattle.spreads.proofs.links.find_members.Statement.{statement}
 use Rattle.spreads.proofs.links.find_members.Tie as tie
 
 -- the places found so far, and those from `at` on, are those of the group
-abbrev invariant-loop : tie.invariant-loop
+abbrev invariant-loop : tie.invariant-loop-at
 invariant-loop placement links g members₀ n count₀ at₀ members count at = Finding g placement links members₀ members n count at
 
-abbrev decreases-loop : tie.decreases-loop
+abbrev decreases-loop : tie.decreases-loop-at
 decreases-loop placement links g members₀ n count₀ at₀ members count at = n - at
 
-loop-holds : tie.Need-loop-init invariant-loop decreases-loop
+loop-holds : tie.Need-loop-at-init invariant-loop decreases-loop
 loop-holds c =
     let p = c.before.before.before.before.requires in
-    find_none _ _ _ _ p.0 p.1.0 p.1.1 c.first-place.ensures
+    find_none _ _ _ _ p.0 p.1.0 p.1.1 c.first_place-at.ensures
 
-loop-again : tie.Need-loop-preserved invariant-loop decreases-loop
-loop-again c = find_more c.before.before.loop.invariant c.before.loop-test.true refl refl refl
+loop-again : tie.Need-loop-at-preserved invariant-loop decreases-loop
+loop-again c = find_more c.before.before.loop-at.invariant c.before.loop-at-test.true refl refl refl
 
-pub find-members-spec : {M : Type 1} → statement M
-find-members-spec =
+pub find_members_spec : {M : Type 1} → statement M
+find_members_spec =
     tie.close
     (tie.spec
     invariant-loop
@@ -33,9 +33,9 @@ find-members-spec =
     (λ c. omega arith)
     (λ c. omega arith)
     (λ c. omega arith)
-    (λ c. omega (arith, c.before.before.loop.invariant.linked.long))
-    (λ c. omega (arith, c.shared-slice-known3.given c.before.before.loop.at))
-    (λ c. omega (arith, find_past c.before.before.loop.invariant c.before.loop-test.true))
+    (λ c. omega (arith, c.before.before.loop-at.invariant.linked.long))
+    (λ c. omega (arith, c.shared_slice_known-in-loop-at-1.given c.before.before.loop-at.at))
+    (λ c. omega (arith, find_past c.before.before.loop-at.invariant c.before.loop-at-test.true))
     loop-again
-    (λ c. c.before.loop.invariant.same)
-    (λ c. find_done c.before.loop.invariant c.loop-test.false))
+    (λ c. c.before.loop-at.invariant.same)
+    (λ c. find_done c.before.loop-at.invariant c.loop-at-test.false))

@@ -11,31 +11,31 @@ use Rattle.spreads.proofs.pairs.copy_marks.Statement.{statement}
 use Rattle.spreads.proofs.pairs.copy_marks.Tie as tie
 
 -- the marks of the first i legs stand in the list
-abbrev invariant-loop : tie.invariant-loop
+abbrev invariant-loop : tie.invariant-loop-i
 invariant-loop placement members marks₀ i₀ marks i = (i ≤ length members) × WrittenSoFar (marks_at (legs_at placement members)) marks₀ i marks
 
-abbrev decreases-loop : tie.decreases-loop
+abbrev decreases-loop : tie.decreases-loop-i
 decreases-loop placement members marks₀ i₀ marks i = length members - i
 
-loop-holds : tie.Need-loop-init invariant-loop decreases-loop
+loop-holds : tie.Need-loop-i-init invariant-loop decreases-loop
 loop-holds c = (omega arith, write_none _ _ (rw length_marks c.before.before.before.requires))
 
-loop-again : tie.Need-loop-preserved invariant-loop decreases-loop
+loop-again : tie.Need-loop-i-preserved invariant-loop decreases-loop
 loop-again c =
     let m = c.before in
     let t = m.before in
     let s = t.before.before.before.before.before.args in
     let n = length_marks s.placement.now s.members.now in
-    (omega arith, write_more t.before.loop.invariant.1 (omega arith) _ (c.mark_of.ensures ∙ sym (mark_at _ _ _ m.member.ensures)))
+    (omega arith, write_more t.before.loop-i.invariant.1 (omega arith) _ (c.mark_of.ensures ∙ sym (mark_at _ _ _ m.member-leg.ensures)))
 
 returns : tie.Need-returns invariant-loop decreases-loop
 returns c =
     let s = c.before.before.before.before.before.args in
     let n = length_marks s.placement.now s.members.now in
-    write_all c.before.loop.invariant.1 (omega arith)
+    write_all c.before.loop-i.invariant.1 (omega arith)
 
-pub copy-marks-spec : {M : Type 1} → statement M
-copy-marks-spec =
+pub copy_marks_spec : {M : Type 1} → statement M
+copy_marks_spec =
     tie.close
     (tie.spec
     invariant-loop
@@ -44,9 +44,9 @@ copy-marks-spec =
     (λ c κs. omega arith)
     (λ c κs. search rules)
     (λ c. omega arith)
-    (λ c. omega (arith, write_length c.before.before.before.loop.invariant.1))
+    (λ c. omega (arith, write_length c.before.before.before.loop-i.invariant.1))
     (λ c. omega arith)
     (λ c. omega arith)
     loop-again
-    (λ c. write_length c.before.loop.invariant.1)
+    (λ c. write_length c.before.loop-i.invariant.1)
     returns)

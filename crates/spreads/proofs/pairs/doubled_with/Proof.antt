@@ -6,16 +6,16 @@ use Rattle.spreads.proofs.SearchLaws.{marks_taken}
 use Rattle.spreads.proofs.pairs.doubled_with.Statement.{statement}
 use Rattle.spreads.proofs.pairs.doubled_with.Tie as tie
 
-slice-aggregate-first-doubled : tie.Need-slice-aggregate-first-doubled
+slice-aggregate-first-doubled : tie.Need-slice_bounds-first_doubled-end-2
 slice-aggregate-first-doubled c =
     let s = c.before.before.before.before.before.before.before.before in
     sym (length-take-le _ _ (omega (arith, c.before.before.marks.given, s.requires)))
 
-first-doubled-requires : tie.Need-first-doubled-requires
-first-doubled-requires c κs = marks_taken _ _ _ c.before.before.before.copy-marks.ensures
+first-doubled-requires : tie.Need-first_doubled-requires
+first-doubled-requires c κs = marks_taken _ _ _ c.before.before.before.copy_marks.ensures
 
-pub doubled-with-spec : {M : Type 1} → statement M
-doubled-with-spec =
+pub doubled_with_spec : {M : Type 1} → statement M
+doubled_with_spec =
     tie.close
     (tie.spec
     (λ c κs. search rules)

@@ -8,8 +8,8 @@ returns : tie.Need-returns
 unfolding series_mark
 returns c = search rules
 
-pub mark-of-spec : {M : Type 1} → statement M
-mark-of-spec =
+pub mark_of_spec : {M : Type 1} → statement M
+mark_of_spec =
     tie.close
     (tie.spec
     (λ c. search rules)

@@ -3,15 +3,15 @@ use Rattle.spreads.proofs.Naming.{pair_leg, facts_leg}
 use Rattle.spreads.proofs.pointing.broken_leg.Statement.{statement}
 use Rattle.spreads.proofs.pointing.broken_leg.Tie as tie
 
-returns : tie.Need-returns
+returns : tie.Need-returns-then-number-eq10
 returns c =
     let t = c.before in
-    pair_leg _ _ _ t.if1.true t.before.before.before.requires.1 c.later.ensures
+    pair_leg _ _ _ t.if-number-eq10.true t.before.before.before.requires.1 c.later.ensures
 
-returns-2 : tie.Need-returns-2
+returns-2 : tie.Need-returns
 returns-2 c =
     let t = c.before in
-    facts_leg _ _ _ t.before.before.before.requires.0 t.if1.false c.first-breaking.ensures
+    facts_leg _ _ _ t.before.before.before.requires.0 t.if-number-eq10.false c.first_breaking.ensures
 
-pub broken-leg-spec : {M : Type 1} → statement M
-broken-leg-spec = tie.close (tie.spec (λ c κs. search rules) returns (λ c κs. search rules) returns-2)
+pub broken_leg_spec : {M : Type 1} → statement M
+broken_leg_spec = tie.close (tie.spec (λ c κs. search rules) returns (λ c κs. search rules) returns-2)

@@ -9,39 +9,39 @@ use Rattle.spreads.proofs.FoundLaws.{found_legs, found_prices, found_group}
 use Rattle.spreads.proofs.worksheets.checked_nets.Statement.{statement}
 use Rattle.spreads.proofs.worksheets.checked_nets.Tie as tie
 
-array-share-prefix-members : tie.Need-array-share-prefix-members
+array-share-prefix-members : tie.Need-slice_bounds-members-end
 array-share-prefix-members c =
-    let f = c.before.before.before.before in
-    omega (arith, f.find-alone.ensures.few, c.before.before.before.members2.given)
+    let f = c.before.before.before in
+    omega (arith, f.find_alone-found.ensures.few, c.before.before.members-2-1.given)
 
-array-share-prefix-prices : tie.Need-array-share-prefix-prices
+array-share-prefix-prices : tie.Need-slice_bounds-prices-end
 array-share-prefix-prices c =
-    let p = c.before.before.before in
-    omega (arith, p.before.before.find-alone.ensures.few, p.prices2.given)
+    let p = c.before.before in
+    omega (arith, p.before.before.find_alone-found.ensures.few, p.prices-2-1.given)
 
-list-nets-requires : tie.Need-list-nets-requires
+list-nets-requires : tie.Need-list_nets-requires
 list-nets-requires c κs =
-    let f = c.before.before.before.before.before.before.before.before in
-    let e = f.find-alone.ensures in
+    let f = c.before.before.before.before.before.before.before in
+    let e = f.find_alone-found.ensures in
     (found_group e f.before.before.before.before.before.requires, found_prices e)
 
-returns : tie.Need-returns
+returns : tie.Need-returns-in-Is
 unfolding strikes_listed
 returns c =
-    let f = c.before.before.before.before.before in
-    (list_stop _ _ _ _ (sym f.find-alone.ensures.fault ∙ c.before.fault.given.1), (refl, refl))
+    let f = c.before.before.before in
+    (list_stop _ _ _ _ (sym f.find_alone-found.ensures.fault ∙ c.in-Is.is), (refl, refl))
 
-returns-2 : tie.Need-returns-2
+returns-2 : tie.Need-returns-in-Nothing
 unfolding strikes_listed
 returns-2 c =
     let l = c.before.before.before in
     let t = l.before.before.before.before.before in
-    let e = t.before.before.before.before.find-alone.ensures in
-    let r = rw (found_legs e) at l.list-nets.ensures in
-    (rw (first_then _ _ (sym e.fault ∙ t.enum_told.given.1)) r.0, r.1)
+    let e = t.before.before.before.find_alone-found.ensures in
+    let r = rw (found_legs e) at l.list_nets.ensures in
+    (rw (first_then _ _ (sym e.fault ∙ t.in-Nothing.is)) r.0, r.1)
 
-pub checked-nets-spec : {M : Type 1} → statement M
-checked-nets-spec =
+pub checked_nets_spec : {M : Type 1} → statement M
+checked_nets_spec =
     tie.close
     (tie.spec
     (λ c. search rules)

@@ -9,36 +9,36 @@ use Rattle.symbols.proofs.RunLaws.{all_next, all_stop, all_over}
 use Rattle.symbols.proofs.digits.all_digits.Statement.{statement}
 use Rattle.symbols.proofs.digits.all_digits.Tie as tie
 
-abbrev invariant-loop : tie.invariant-loop
+abbrev invariant-loop : tie.invariant-loop-i
 invariant-loop part i₀ i = (i ≤ length part) × (all_of is_digit part ≡ all_of is_digit (drop i part))
 
-abbrev decreases-loop : tie.decreases-loop
+abbrev decreases-loop : tie.decreases-loop-i
 decreases-loop part i₀ i = length part - i
 
-loop-holds : tie.Need-loop-init invariant-loop decreases-loop
+loop-holds : tie.Need-loop-i-init invariant-loop decreases-loop
 loop-holds c = (omega arith, refl)
 
-loop-again : tie.Need-loop-preserved invariant-loop decreases-loop
+loop-again : tie.Need-loop-i-preserved invariant-loop decreases-loop
 loop-again c =
     let d = c.before in
     let l = d.before.before.before in
     let part = l.before.before.args.part.now in
-    (omega arith, l.loop.invariant.1 ∙ all_next 0 is_digit part l.loop.i (omega arith) (sym d.is_digit.ensures ∙ c.if1.true))
+    (omega arith, l.loop-i.invariant.1 ∙ all_next 0 is_digit part l.loop-i.i (omega arith) (sym d.is_digit.ensures ∙ c.if-is_digit.true))
 
-returns : tie.Need-returns invariant-loop decreases-loop
+returns : tie.Need-returns-else-is_digit invariant-loop decreases-loop
 returns c =
     let d = c.before in
     let l = d.before.before.before in
     let part = l.before.before.args.part.now in
-    sym (l.loop.invariant.1 ∙ all_stop 0 is_digit part l.loop.i (omega arith) (sym d.is_digit.ensures ∙ c.if1.false))
+    sym (l.loop-i.invariant.1 ∙ all_stop 0 is_digit part l.loop-i.i (omega arith) (sym d.is_digit.ensures ∙ c.if-is_digit.false))
 
-returns-2 : tie.Need-returns-2 invariant-loop decreases-loop
+returns-2 : tie.Need-returns invariant-loop decreases-loop
 returns-2 c =
     let l = c.before in
-    sym (l.loop.invariant.1 ∙ all_over 0 is_digit l.before.before.args.part.now l.loop.i (omega arith))
+    sym (l.loop-i.invariant.1 ∙ all_over 0 is_digit l.before.before.args.part.now l.loop-i.i (omega arith))
 
-pub all-digits-spec : {M : Type 1} → statement M
-all-digits-spec =
+pub all_digits_spec : {M : Type 1} → statement M
+all_digits_spec =
     tie.close
     (tie.spec
     invariant-loop

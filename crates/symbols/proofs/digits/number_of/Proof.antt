@@ -10,13 +10,13 @@ use Rattle.symbols.proofs.digits.number_of.Statement.{statement}
 use Rattle.symbols.proofs.digits.number_of.Tie as tie
 
 -- a byte says at most 207, so that i of them say less than 23 times the i-th power of ten
-abbrev invariant-loop : tie.invariant-loop
+abbrev invariant-loop : tie.invariant-loop-i
 invariant-loop part value₀ i₀ value i = (i ≤ length part) × (value + 23 ≤ 23 * 10 ^ i) × (value_of part ≡ value_from value (drop i part))
 
-abbrev decreases-loop : tie.decreases-loop
+abbrev decreases-loop : tie.decreases-loop-i
 decreases-loop part value₀ i₀ value i = length part - i
 
-loop-holds : tie.Need-loop-init invariant-loop decreases-loop
+loop-holds : tie.Need-loop-i-init invariant-loop decreases-loop
 loop-holds c = (omega arith, omega arith, refl)
 
 mul-value : tie.Need-overflow-mul-value invariant-loop decreases-loop
@@ -28,24 +28,24 @@ add-value c =
     let d = c.digit_value.ensures.1 in
     record { fits = omega (arith, value_room l.loop.value l.loop.i l.loop.invariant.1 (omega arith)) }
 
-loop-again : tie.Need-loop-preserved invariant-loop decreases-loop
+loop-again : tie.Need-loop-i-preserved invariant-loop decreases-loop
 loop-again c =
     let l = c.before.before.before in
     let e = c.digit_value.ensures in (
       omega arith,
-      value_grows l.loop.value l.loop.i c.digit_value.result l.loop.invariant.1 e.1,
-      l.loop.invariant.2 ∙ rw e.0 (value_next l.before.before.args.part.now l.loop.i l.loop.value (omega arith)),
+      value_grows l.loop-i.value l.loop-i.i c.digit_value.result l.loop-i.invariant.1 e.1,
+      l.loop-i.invariant.2 ∙ rw e.0 (value_next l.before.before.args.part.now l.loop-i.i l.loop-i.value (omega arith)),
     )
 
 returns : tie.Need-returns invariant-loop decreases-loop
 returns c =
     let l = c.before in (
-      sym (l.loop.invariant.2 ∙ value_over l.before.before.args.part.now l.loop.i l.loop.value (omega arith)),
-      value_most l.loop.value l.loop.i l.loop.invariant.1 (omega arith),
+      sym (l.loop-i.invariant.2 ∙ value_over l.before.before.args.part.now l.loop-i.i l.loop-i.value (omega arith)),
+      value_most l.loop-i.value l.loop-i.i l.loop-i.invariant.1 (omega arith),
     )
 
-pub number-of-spec : {M : Type 1} → statement M
-number-of-spec =
+pub number_of_spec : {M : Type 1} → statement M
+number_of_spec =
     tie.close
     (tie.spec
     invariant-loop

@@ -11,16 +11,16 @@ use Rattle.symbols.specs.Calls.{list_room}
 use Rattle.symbols.proofs.exports.put_list.Statement.{statement}
 use Rattle.symbols.proofs.exports.put_list.Tie as tie
 
-returns : tie.Need-returns
+returns : tie.Need-returns-then-list-n
 unfolding list_room first_of
-returns c = (rw (lt-leb _ _ c.if1.true), refl)
+returns c = (rw (lt-leb _ _ c.if-list-n.true), refl)
 
-slice-aggregate-copy-to : tie.Need-slice-aggregate-copy-to
+slice-aggregate-copy-to : tie.Need-slice_bounds-copy_to-end
 slice-aggregate-copy-to c =
     let a = c.before.before.before.before.before.args in
     sym (length-take-le a.n a.text.now (omega arith))
 
-returns-2 : tie.Need-returns-2
+returns-2 : tie.Need-returns
 unfolding list_room first_of
 returns-2 c =
     let k = c.before.before in
@@ -28,7 +28,7 @@ returns-2 c =
     let a = e.before.before.before.args in
     let lines = take a.n a.text.now in
     let room : 0 + length lines ≤ length a.list.now = simp length-take (omega arith) in
-    (rw (le-leb _ _ e.if1.false), k.copy-to.ensures ∙ put_room a.list.now 0 lines room)
+    (rw (le-leb _ _ e.if1.false), k.copy_to.ensures ∙ put_room a.list.now 0 lines room)
 
-pub put-list-spec : {M : Type 1} → statement M
-put-list-spec = tie.close (tie.spec returns slice-aggregate-copy-to (λ c κs. search rules) (λ c. search rules) returns-2)
+pub put_list_spec : {M : Type 1} → statement M
+put_list_spec = tie.close (tie.spec returns slice-aggregate-copy-to (λ c κs. search rules) (λ c. search rules) returns-2)

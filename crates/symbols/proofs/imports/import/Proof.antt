@@ -5,19 +5,19 @@ use Rattle.symbols.specs.Calls.{import_checks, import_call}
 use Rattle.symbols.proofs.imports.import.Statement.{statement}
 use Rattle.symbols.proofs.imports.import.Tie as tie
 
-returns : tie.Need-returns
+returns : tie.Need-returns-in-Is
 unfolding import_call import_checks
-returns c = (rw (first_stop _ _ _ (sym c.before.before.before.root-fault.ensures ∙ c.before.refusal.given.1)), refl)
+returns c = (rw (first_stop _ _ _ (sym c.before.root_fault.ensures ∙ c.in-Is.is)), refl)
 
-returns-2 : tie.Need-returns-2
+returns-2 : tie.Need-returns-in-Nothing
 unfolding import_call import_checks
 returns-2 c =
     let p = c.before.before in
     let t = p.before.before in
-    (rw (first_then _ _ (sym t.before.before.root-fault.ensures ∙ t.enum_told.given.1)) p.import-lines.ensures.0, p.import-lines.ensures.1)
+    (rw (first_then _ _ (sym t.before.root_fault.ensures ∙ t.in-Nothing.is)) p.import_lines.ensures.0, p.import_lines.ensures.1)
 
-pub import-spec : {M : Type 1} → statement M
-import-spec =
+pub import_spec : {M : Type 1} → statement M
+import_spec =
     tie.close
     (tie.spec
     (λ c κs. search rules)

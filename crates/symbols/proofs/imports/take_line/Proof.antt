@@ -15,24 +15,24 @@ use Rattle.symbols.proofs.LineLaws.{formed_length}
 use Rattle.symbols.proofs.imports.take_line.Statement.{statement}
 use Rattle.symbols.proofs.imports.take_line.Tie as tie
 
-formed : (t : tie.Then1) → well_formed t.before.before.before.before.before.args.line.now ≡ true
-formed t = sym t.before.well-formed-2.ensures ∙ t.if1.true
+formed : (t : tie.Then-well_formed) → well_formed t.before.before.before.before.before.args.line.now ≡ true
+formed t = sym t.before.well-formed-2.ensures ∙ t.if-well_formed.true
 
-line-says-requires : tie.Need-line-says-requires
+line-says-requires : tie.Need-line_says-said-requires
 line-says-requires c κs = formed_length _ (formed c)
 
-slice-aggregate-find-name : tie.Need-slice-aggregate-find-name
+slice-aggregate-find-name : tie.Need-slice_bounds-find_name-end
 slice-aggregate-find-name c = let u = c.before.before.before.before in sym (length-take-le 6 u.before.before.before.before.before.args.line.now (omega (arith, formed_length _ (formed u))))
 
-find-name-requires : tie.Need-find-name-requires
+find-name-requires : tie.Need-find_name-place-requires
 find-name-requires c κs =
     let u = c.before.before.before.before in
     length-take-le 6 u.before.before.before.before.before.args.line.now (omega (arith, formed_length _ (formed u)))
 
-said : (t : tie.Then2) → line_in_range (line_says t.before.before.before.before.before.before.before.before.args.line.now) ≡ true
-said t = rw t.before.before.line-says.ensures at (sym t.before.line-in-range.ensures) ∙ t.if2.true
+said : (t : tie.Then-line_in_range) → line_in_range (line_says t.before.before.before.before.before.before.before.before.args.line.now) ≡ true
+said t = rw t.before.before.line_says-said.ensures at (sym t.before.line_in_range.ensures) ∙ t.if-line_in_range.true
 
-returns : tie.Need-returns
+returns : tie.Need-returns-then-i-lt-MOST_LEGS
 returns c =
     let k = c.before.before in
     let b = k.before.before.before in
@@ -43,17 +43,17 @@ returns c =
     let a = u.before.before.before.before.before.args in
     let roots = a.roots.now in
     let xs = a.line.now in
-    let place = f.find-name.result in
+    let place = f.find_name-place.result in
     let start = u.before.before.before.before.before in
-    let room : 32 * a.i + length b.leg-bytes.result ≤ length a.rows.now = rw b.leg-bytes.ensures (omega (arith, length_leg_bytes b.before.line-leg.result, start.requires)) in
+    let room : 32 * a.i + length b.leg_bytes-bytes.result ≤ length a.rows.now = rw b.leg_bytes-bytes.ensures (omega (arith, length_leg_bytes b.before.line_leg.result, start.requires)) in
     let leg =
-    leg_is roots xs place f.find-name.ensures (omega arith) t.terms-at.result s.before.before.line-says.result t.terms-at.ensures
-    s.before.before.line-says.ensures in (
-      number_none (roots_of roots) 0 xs [] (formed u) (said s) (root_known roots xs place f.find-name.ensures (omega arith)),
-      λ z h. rw (b.leg-bytes.ensures, b.before.line-leg.ensures, leg) at (k.copy-to.ensures ∙ put_room _ (32 * a.i) _ room),
+    leg_is roots xs place f.find_name-place.ensures (omega arith) t.terms_at.result s.before.before.line_says.result t.terms_at.ensures
+    s.before.before.line_says.ensures in (
+      number_none (roots_of roots) 0 xs [] (formed u) (said s) (root_known roots xs place f.find_name-place.ensures (omega arith)),
+      λ z h. rw (b.leg_bytes-bytes.ensures, b.before.line_leg.ensures, leg) at (k.copy_to.ensures ∙ put_room _ (32 * a.i) _ room),
     )
 
-returns-2 : tie.Need-returns-2
+returns-2 : tie.Need-returns-else-i-lt-MOST_LEGS
 returns-2 c =
     let f = c.before.before in
     let s = f.before.before in
@@ -61,11 +61,11 @@ returns-2 c =
     let a = u.before.before.before.before.before.args in
     let roots = a.roots.now in
     let xs = a.line.now in (
-      number_none (roots_of roots) 0 xs [] (formed u) (said s) (root_known roots xs f.find-name.result f.find-name.ensures (omega arith)),
+      number_none (roots_of roots) 0 xs [] (formed u) (said s) (root_known roots xs f.find_name-place.result f.find_name-place.ensures (omega arith)),
       λ z h. absurd (omega arith),
     )
 
-returns-3 : tie.Need-returns-3
+returns-3 : tie.Need-returns-then-line_in_range
 returns-3 c =
     let f = c.before in
     let s = f.before.before in
@@ -73,24 +73,24 @@ returns-3 c =
     let a = u.before.before.before.before.before.args in
     let roots = a.roots.now in
     let xs = a.line.now in (
-      number_unknown (roots_of roots) 0 xs [] (formed u) (said s) (root_unknown roots xs f.find-name.result f.find-name.ensures (omega arith)),
+      number_unknown (roots_of roots) 0 xs [] (formed u) (said s) (root_unknown roots xs f.find_name-place.result f.find_name-place.ensures (omega arith)),
       λ z h. absurd (omega arith),
     )
 
-returns-4 : tie.Need-returns-4
+returns-4 : tie.Need-returns-then-well_formed
 returns-4 c =
     let u = c.before.before.before in
     let a = u.before.before.before.before.before.args in
-    let e = rw c.before.before.line-says.ensures at (sym c.before.line-in-range.ensures) ∙ c.if2.false in
+    let e = rw c.before.before.line_says-said.ensures at (sym c.before.line_in_range.ensures) ∙ c.if-line_in_range.false in
     (number_range (roots_of a.roots.now) 0 a.line.now [] (formed u) e, λ z h. absurd (omega arith))
 
-returns-5 : tie.Need-returns-5
+returns-5 : tie.Need-returns
 returns-5 c =
     let a = c.before.before.before.before.before.args in
-    (number_malformed (roots_of a.roots.now) 0 a.line.now [] (sym c.before.well-formed-2.ensures ∙ c.if1.false), λ z h. absurd (omega arith))
+    (number_malformed (roots_of a.roots.now) 0 a.line.now [] (sym c.before.well-formed-2.ensures ∙ c.if-well_formed.false), λ z h. absurd (omega arith))
 
-pub take-line-spec : {M : Type 1} → statement M
-take-line-spec =
+pub take_line_spec : {M : Type 1} → statement M
+take_line_spec =
     tie.close
     (tie.spec
     (λ c κs. search rules)

@@ -7,5 +7,5 @@ returns : tie.Need-returns
 unfolding line_in_range
 returns c = rw c.before.before.before.before.real_date.ensures
 
-pub line-in-range-spec : {M : Type 1} → statement M
-line-in-range-spec = tie.close (tie.spec (λ c κs. search rules) returns)
+pub line_in_range_spec : {M : Type 1} → statement M
+line_in_range_spec = tie.close (tie.spec (λ c κs. search rules) returns)

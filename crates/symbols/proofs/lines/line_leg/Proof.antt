@@ -7,5 +7,5 @@ returns : tie.Need-returns
 unfolding line_leg
 returns c = rw c.of.ensures
 
-pub line-leg-spec : {M : Type 1} → statement M
-line-leg-spec = tie.close (tie.spec (λ c κs. search rules) returns)
+pub line_leg_spec : {M : Type 1} → statement M
+line_leg_spec = tie.close (tie.spec (λ c κs. search rules) returns)

@@ -20,10 +20,10 @@ returns c =
     let z = r.before.before.before in
     let xs = z.args.line.now in
     let q : length xs - 1 - 24 ≡ length xs - 25 = omega arith in
-    rw (c.number-of3.ensures.0, s.side-said.ensures, k.number-of2.ensures.0, d.number_of.ensures.0, r.right-said.ensures, q)
+    rw (c.number_of-3.ensures.0, s.side_said.ensures, k.number_of-2.ensures.0, d.number_of.ensures.0, r.right_said.ensures, q)
 
-pub line-says-spec : {M : Type 1} → statement M
-line-says-spec =
+pub line_says_spec : {M : Type 1} → statement M
+line_says_spec =
     tie.close
     (tie.spec
     (λ c. search rules)

@@ -9,24 +9,24 @@ use Rattle.symbols.proofs.LineLaws.{length_line, line_put}
 use Rattle.symbols.proofs.lines.put_line.Statement.{statement}
 use Rattle.symbols.proofs.lines.put_line.Tie as tie
 
-put-digits-requires : tie.Need-put-digits-requires
-put-digits-requires c κs = omega (arith, places_most c.before.before.number.result, c.before.places_of.ensures)
+put-digits-requires : tie.Need-put_digits-requires
+put-digits-requires c κs = omega (arith, places_most c.before.before.number-contracts.result, c.before.places_of-places.ensures)
 
 add-end-2 : tie.Need-overflow-add-end-2
 add-end-2 c = let p = c.before.before.before.before in let z = p.before.before.before.before.before.before.before.before.before.before.before.before.before.before in omega (arith, places_most p.before.number.result, p.places_of.ensures)
 
-slice-write-out : tie.Need-slice-write-out
+slice-write-out : tie.Need-bounds-out-end
 slice-write-out c = let p = c.before.before.before.before in let z = p.before.before.before.before.before.before.before.before.before.before.before.before.before.before in omega (arith, places_most p.before.number.result, p.places_of.ensures)
 
 add-result : tie.Need-overflow-add-result
 add-result c = let p = c.before.before.before.before in let z = p.before.before.before.before.before.before.before.before.before.before.before.before.before.before in omega (arith, places_most p.before.number.result, p.places_of.ensures)
 
-same_length : tie.Need-same-length
+same_length : tie.Need-shape_of-out
 same_length c =
     let d = c.before.before in
     let k = d.before.before.before.before.before.before in
     let s = k.before.before.before.before.before.before in
-    simp length-set (d.put-digits.auto.1.1.0 ∙ k.copy-to.auto.0 ∙ s.put-symbol.auto.1.1.0)
+    simp length-set (d.put_digits.auto.1.1.0 ∙ k.copy_to.auto.0 ∙ s.put_symbol.auto.1.1.0)
 
 returns : tie.Need-returns
 returns c =
@@ -39,15 +39,15 @@ returns c =
     let z = s.before.before.before.before in
     let a = z.args in
     let name = a.name.now in (
-      rw (length_line name a.leg z.requires.0, ← n.number.ensures, ← p.places_of.ensures) (omega arith),
-      line_put name a.leg z.requires.0 a.out.now s.put-symbol.new.1.1.0 k.copy-to.new.0 d.put-digits.new.1.1.0 a.at
-          m.side-char.result n.number.result p.places_of.result z.requires.1
-          (d.put-digits.auto.1.1.0 ∙ k.copy-to.auto.0 ∙ s.put-symbol.auto.1.1.0) s.put-symbol.ensures m.side-char.ensures
-          (k.copy-to.ensures ∙ put_room _ (a.at + 21) _ (omega (arith, s.put-symbol.auto.1.1.0, z.requires.1))) n.number.ensures p.places_of.ensures d.put-digits.ensures,
+      rw (length_line name a.leg z.requires.0, ← n.number-contracts.ensures, ← p.places_of-places.ensures) (omega arith),
+      line_put name a.leg z.requires.0 a.out.now s.put_symbol.new.1.1.0 k.copy_to.new.0 d.put_digits.new.1.1.0 a.at
+          m.side_char.result n.number-contracts.result p.places_of-places.result z.requires.1
+          (d.put_digits.auto.1.1.0 ∙ k.copy_to.auto.0 ∙ s.put_symbol.auto.1.1.0) s.put_symbol.ensures m.side_char.ensures
+          (k.copy_to.ensures ∙ put_room _ (a.at + 21) _ (omega (arith, s.put_symbol.auto.1.1.0, z.requires.1))) n.number-contracts.ensures p.places_of-places.ensures d.put_digits.ensures,
     )
 
-pub put-line-spec : {M : Type 1} → statement M
-put-line-spec =
+pub put_line_spec : {M : Type 1} → statement M
+put_line_spec =
     tie.close
     (tie.spec
     (λ c κs. search rules)

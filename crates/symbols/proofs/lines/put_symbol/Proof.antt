@@ -7,14 +7,14 @@ use Rattle.symbols.proofs.LineLaws.{symbol_put}
 use Rattle.symbols.proofs.lines.put_symbol.Statement.{statement}
 use Rattle.symbols.proofs.lines.put_symbol.Tie as tie
 
-put-digits-requires-2 : tie.Need-put-digits-requires-2
+put-digits-requires-2 : tie.Need-put_digits-requires-2
 put-digits-requires-2 c κs = simp length-set (omega arith)
 
-same_length : tie.Need-same-length
+same_length : tie.Need-shape_of-out
 same_length c =
     let d = c.before.before.before.before.before.before.before in
     let k = d.before.before.before.before.before in
-    (simp length-set at c.before.before.put-digits2.auto.1.1.0) ∙ d.put-digits.auto.1.1.0 ∙ k.copy-to.auto.0
+    (simp length-set at c.before.before.put_digits-2.auto.1.1.0) ∙ d.put_digits.auto.1.1.0 ∙ k.copy_to.auto.0
 
 returns : tie.Need-returns
 returns c =
@@ -24,12 +24,12 @@ returns c =
     let k = d.before.before.before.before.before in
     let z = k.before.before.before.before in
     let a = z.args in
-    symbol_put a.name.now a.leg z.requires.0 a.out.now k.copy-to.new.0 d.put-digits.new.1.1.0 f.put-digits2.new.1.1.0 a.at
-    r.right-char.result z.requires.1 (d.put-digits.auto.1.1.0 ∙ k.copy-to.auto.0) (k.copy-to.ensures ∙ put_room _ a.at _ (omega (arith, z.requires.0, z.requires.1))) d.put-digits.ensures
-    r.right-char.ensures f.put-digits2.ensures
+    symbol_put a.name.now a.leg z.requires.0 a.out.now k.copy_to.new.0 d.put_digits.new.1.1.0 f.put_digits-2.new.1.1.0 a.at
+    r.right_char.result z.requires.1 (d.put_digits.auto.1.1.0 ∙ k.copy_to.auto.0) (k.copy_to.ensures ∙ put_room _ a.at _ (omega (arith, z.requires.0, z.requires.1))) d.put_digits.ensures
+    r.right_char.ensures f.put_digits-2.ensures
 
-pub put-symbol-spec : {M : Type 1} → statement M
-put-symbol-spec =
+pub put_symbol_spec : {M : Type 1} → statement M
+put_symbol_spec =
     tie.close
     (tie.spec
     (λ c κs. search rules)

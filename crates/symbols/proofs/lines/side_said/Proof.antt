@@ -2,11 +2,11 @@ use borrow.Author.Tests.{eq-eqb, ne_eqb}
 use Rattle.symbols.proofs.lines.side_said.Statement.{statement}
 use Rattle.symbols.proofs.lines.side_said.Tie as tie
 
-returns : tie.Need-returns
-returns c = rw (eq-eqb _ _ c.if1.true)
+returns : tie.Need-returns-then-c-eq76
+returns c = rw (eq-eqb _ _ c.if-c-eq76.true)
 
-returns-2 : tie.Need-returns-2
-returns-2 c = rw (ne_eqb _ _ c.if1.false)
+returns-2 : tie.Need-returns
+returns-2 c = rw (ne_eqb _ _ c.if-c-eq76.false)
 
-pub side-said-spec : {M : Type 1} → statement M
-side-said-spec = tie.close (tie.spec returns returns-2)
+pub side_said_spec : {M : Type 1} → statement M
+side_said_spec = tie.close (tie.spec returns returns-2)

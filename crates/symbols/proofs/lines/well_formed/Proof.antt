@@ -9,18 +9,18 @@ use Rattle.symbols.specs.Lines.{well_formed}
 use Rattle.symbols.proofs.lines.well_formed.Statement.{statement}
 use Rattle.symbols.proofs.lines.well_formed.Tie as tie
 
-returns : tie.Need-returns
+returns : tie.Need-returns-then-line-lt-LEAST_LINE
 unfolding well_formed
-returns c = rw (lt-leb _ _ c.if1.true)
+returns c = rw (lt-leb _ _ c.if-line-lt-LEAST_LINE.true)
 
-returns-2 : tie.Need-returns-2
+returns-2 : tie.Need-returns-then-line-gt-LONGEST_LINE
 unfolding well_formed
-returns-2 c = rw (le-leb _ _ c.before.if1.false, lt-leb _ _ c.if2.true)
+returns-2 c = rw (le-leb _ _ c.before.if-line-lt-LEAST_LINE.false, lt-leb _ _ c.if-line-gt-LONGEST_LINE.true)
 
-slice-aggregate-good-name : tie.Need-slice-aggregate-good-name
+slice-aggregate-good-name : tie.Need-slice_bounds-good_name-end
 slice-aggregate-good-name c = sym (length-take-le 6 c.before.before.before.before.args.line.now (omega arith))
 
-returns-3 : tie.Need-returns-3
+returns-3 : tie.Need-returns
 unfolding well_formed
 returns-3 c =
     let d = c.before in
@@ -35,17 +35,17 @@ returns-3 c =
     rw (
       le-leb _ _ b.before.if1.false,
       le-leb _ _ b.if2.false,
-      d.all-digits3.ensures,
-      s.is-side.ensures,
-      k.all-digits2.ensures,
+      d.all_digits-3.ensures,
+      s.is_side.ensures,
+      k.all_digits-2.ensures,
       r.is_right.ensures,
       y.all_digits.ensures,
-      n.good-name.ensures,
+      n.good_name.ensures,
       q,
     )
 
-pub well-formed-spec : {M : Type 1} → statement M
-well-formed-spec =
+pub well_formed_spec : {M : Type 1} → statement M
+well_formed_spec =
     tie.close
     (tie.spec
     returns

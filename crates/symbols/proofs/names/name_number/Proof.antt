@@ -9,10 +9,10 @@ returns c =
     let m = c.before in
     let l = m.before in
     let name = l.before.before.args.name.now in
-    omega (arith, le_at_split name 2 4 0, le_at_split name 2 2 2, l.u16-at.ensures, m.u16-at2.ensures, c.u16-at3.ensures)
+    omega (arith, le_at_split name 2 4 0, le_at_split name 2 2 2, l.u16_at-low.ensures, m.u16_at-middle.ensures, c.u16_at-high.ensures)
 
-pub name-number-spec : {M : Type 1} → statement M
-name-number-spec =
+pub name_number_spec : {M : Type 1} → statement M
+name_number_spec =
     tie.close
     (tie.spec
     (λ c κs. search rules)

@@ -14,11 +14,11 @@ unfolding terms_of
 returns c =
     let a = c.before.before.before.before.before in
     let e = a.before.before.args.entry.now in
-    let u : a.u16-at.result + 65536 * c.before.before.before.before.u16-at2.result ≡ le_at e 12 4 = omega (arith, le_at_split e 2 2 12, a.u16-at.ensures, c.before.before.before.before.u16-at2.ensures) in
-    rw (c.before.u16-at3.ensures, u, byte_is e 6, byte_is e 7, byte_is e 10)
+    let u : a.u16_at-low.result + 65536 * c.before.before.before.before.u16_at-high.result ≡ le_at e 12 4 = omega (arith, le_at_split e 2 2 12, a.u16_at-low.ensures, c.before.before.before.before.u16_at-high.ensures) in
+    rw (c.before.u16_at.ensures, u, byte_is e 6, byte_is e 7, byte_is e 10)
 
-pub entry-terms-spec : {M : Type 1} → statement M
-entry-terms-spec =
+pub entry_terms_spec : {M : Type 1} → statement M
+entry_terms_spec =
     tie.close
     (tie.spec
     (λ c κs. search rules)

@@ -9,43 +9,43 @@ use Rattle.symbols.proofs.roots.find_name.Statement.{statement}
 use Rattle.symbols.proofs.roots.find_name.Tie as tie
 
 -- no entry before entry i has the root
-abbrev invariant-loop : tie.invariant-loop
+abbrev invariant-loop : tie.invariant-loop-i
 invariant-loop roots name n i₀ i =
     (n ≡ length roots / 16) × (i ≤ n) × (place_of_name name (roots_of roots) ≡ i + place_of_name name (roots_from roots i))
 
-abbrev decreases-loop : tie.decreases-loop
+abbrev decreases-loop : tie.decreases-loop-i
 decreases-loop roots name n i₀ i = n - i
 
-loop-holds : tie.Need-loop-init invariant-loop decreases-loop
+loop-holds : tie.Need-loop-i-init invariant-loop decreases-loop
 loop-holds c = (refl, omega arith, rw (roots_all c.before.before.args.roots.now) (omega arith))
 
-same-name-requires : tie.Need-same-name-requires invariant-loop decreases-loop
+same-name-requires : tie.Need-same_name-requires invariant-loop decreases-loop
 same-name-requires c κs = let z = c.before.before.before.before.before in (simp (length-take, length-drop) (omega arith), z.requires)
 
-returns : tie.Need-returns invariant-loop decreases-loop
+returns : tie.Need-returns-then-same_name invariant-loop decreases-loop
 returns c =
     let s = c.before in
     let l = s.before.before.before in
     let a = l.before.before.before.args in
-    let same = sym (rw (name_is l.loop.i a.roots.now) at s.same_name.ensures) ∙ c.if1.true in
-    omega (arith, name_hit a.name.now a.roots.now l.loop.i (omega arith) same, l.loop.invariant.2)
+    let same = sym (rw (name_is l.loop-i.i a.roots.now) at s.same_name.ensures) ∙ c.if-same_name.true in
+    omega (arith, name_hit a.name.now a.roots.now l.loop-i.i (omega arith) same, l.loop-i.invariant.2)
 
-loop-again : tie.Need-loop-preserved invariant-loop decreases-loop
+loop-again : tie.Need-loop-i-preserved invariant-loop decreases-loop
 loop-again c =
     let s = c.before in
     let l = s.before.before.before in
     let a = l.before.before.before.args in
-    let other = sym (rw (name_is l.loop.i a.roots.now) at s.same_name.ensures) ∙ c.if1.false in
-    (refl, omega arith, omega (arith, name_miss a.name.now a.roots.now l.loop.i (omega arith) other, l.loop.invariant.2))
+    let other = sym (rw (name_is l.loop-i.i a.roots.now) at s.same_name.ensures) ∙ c.if-same_name.false in
+    (refl, omega arith, omega (arith, name_miss a.name.now a.roots.now l.loop-i.i (omega arith) other, l.loop-i.invariant.2))
 
-returns-2 : tie.Need-returns-2 invariant-loop decreases-loop
+returns-2 : tie.Need-returns invariant-loop decreases-loop
 returns-2 c =
     let l = c.before in
     let a = l.before.before.before.args in
-    omega (arith, name_none a.name.now a.roots.now l.loop.i (omega arith), l.loop.invariant.2)
+    omega (arith, name_none a.name.now a.roots.now l.loop-i.i (omega arith), l.loop-i.invariant.2)
 
-pub find-name-spec : {M : Type 1} → statement M
-find-name-spec =
+pub find_name_spec : {M : Type 1} → statement M
+find_name_spec =
     tie.close
     (tie.spec
     invariant-loop

@@ -10,40 +10,40 @@ use Rattle.symbols.proofs.roots.find_terms.Statement.{statement}
 use Rattle.symbols.proofs.roots.find_terms.Tie as tie
 
 -- no entry before entry i has the terms
-abbrev invariant-loop : tie.invariant-loop
+abbrev invariant-loop : tie.invariant-loop-i
 invariant-loop roots terms n i₀ i =
     (n ≡ length roots / 16) × (i ≤ n) × (place_of_terms terms (roots_of roots) ≡ i + place_of_terms terms (roots_from roots i))
 
-abbrev decreases-loop : tie.decreases-loop
+abbrev decreases-loop : tie.decreases-loop-i
 decreases-loop roots terms n i₀ i = n - i
 
-loop-holds : tie.Need-loop-init invariant-loop decreases-loop
+loop-holds : tie.Need-loop-i-init invariant-loop decreases-loop
 loop-holds c = (refl, omega arith, rw (roots_all c.before.args.roots.now) (omega arith))
 
-returns : tie.Need-returns invariant-loop decreases-loop
+returns : tie.Need-returns-then-same_terms invariant-loop decreases-loop
 returns c =
     let g = c.before.before in
     let l = g.before.before in
     let a = l.before.before.args in
-    let s = sym c.before.same_terms.ensures ∙ c.if1.true in
-    omega (arith, terms_hit a.terms a.roots.now l.loop.i (omega arith) g.terms-at.result g.terms-at.ensures s, l.loop.invariant.2)
+    let s = sym c.before.same_terms.ensures ∙ c.if-same_terms.true in
+    omega (arith, terms_hit a.terms a.roots.now l.loop-i.i (omega arith) g.terms_at.result g.terms_at.ensures s, l.loop-i.invariant.2)
 
-loop-again : tie.Need-loop-preserved invariant-loop decreases-loop
+loop-again : tie.Need-loop-i-preserved invariant-loop decreases-loop
 loop-again c =
     let g = c.before.before in
     let l = g.before.before in
     let a = l.before.before.args in
-    let s = sym c.before.same_terms.ensures ∙ c.if1.false in
-    (refl, omega arith, omega (arith, terms_miss a.terms a.roots.now l.loop.i (omega arith) g.terms-at.result g.terms-at.ensures s, l.loop.invariant.2))
+    let s = sym c.before.same_terms.ensures ∙ c.if-same_terms.false in
+    (refl, omega arith, omega (arith, terms_miss a.terms a.roots.now l.loop-i.i (omega arith) g.terms_at.result g.terms_at.ensures s, l.loop-i.invariant.2))
 
-returns-2 : tie.Need-returns-2 invariant-loop decreases-loop
+returns-2 : tie.Need-returns invariant-loop decreases-loop
 returns-2 c =
     let l = c.before in
     let a = l.before.before.args in
-    omega (arith, terms_none a.terms a.roots.now l.loop.i (omega arith), l.loop.invariant.2)
+    omega (arith, terms_none a.terms a.roots.now l.loop-i.i (omega arith), l.loop-i.invariant.2)
 
-pub find-terms-spec : {M : Type 1} → statement M
-find-terms-spec =
+pub find_terms_spec : {M : Type 1} → statement M
+find_terms_spec =
     tie.close
     (tie.spec
     invariant-loop

@@ -7,7 +7,7 @@ use Rattle.records.proofs.ByteLaws.{byte_is}
 use Rattle.symbols.proofs.roots.good_root.Statement.{statement}
 use Rattle.symbols.proofs.roots.good_root.Tie as tie
 
-slice-aggregate-good-name : tie.Need-slice-aggregate-good-name
+slice-aggregate-good-name : tie.Need-slice_bounds-good_name-end
 slice-aggregate-good-name c = let z = c.before.before in sym (length-take-le 6 z.args.entry.now (omega arith))
 
 returns : tie.Need-returns
@@ -16,10 +16,10 @@ returns c =
     let t = c.before in
     let n = t.before.before in
     let e = n.before.before.before.args.entry.now in
-    rw (byte_is e 11, t.good-terms.ensures, t.before.entry-terms.ensures, n.good-name.ensures)
+    rw (byte_is e 11, t.good_terms.ensures, t.before.entry_terms.ensures, n.good_name.ensures)
 
-pub good-root-spec : {M : Type 1} → statement M
-good-root-spec =
+pub good_root_spec : {M : Type 1} → statement M
+good_root_spec =
     tie.close
     (tie.spec
     slice-aggregate-good-name

@@ -11,5 +11,5 @@ returns c =
     let t = c.before.before.before.before.before.before.before.before.args.terms in
     rw (le-leb 0 t.settlement (omega arith), le-leb t.underlying 4294967295 (omega arith), and-true)
 
-pub good-terms-spec : {M : Type 1} → statement M
-good-terms-spec = tie.close (tie.spec returns)
+pub good_terms_spec : {M : Type 1} → statement M
+good_terms_spec = tie.close (tie.spec returns)

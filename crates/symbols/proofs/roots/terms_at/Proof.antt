@@ -4,10 +4,10 @@ use Rattle.symbols.proofs.roots.terms_at.Statement.{statement}
 use Rattle.symbols.proofs.roots.terms_at.Tie as tie
 
 returns : tie.Need-returns
-returns c = rw (part_is 16) at c.entry-terms.ensures
+returns c = rw (part_is 16) at c.entry_terms.ensures
 
-pub terms-at-spec : {M : Type 1} → statement M
-terms-at-spec =
+pub terms_at_spec : {M : Type 1} → statement M
+terms_at_spec =
     tie.close
     (tie.spec
     (λ c. search rules)

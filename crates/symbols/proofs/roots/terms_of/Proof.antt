@@ -7,5 +7,5 @@ returns : tie.Need-returns
 unfolding leg_terms
 returns c = refl
 
-pub terms-of-spec : {M : Type 1} → statement M
-terms-of-spec = tie.close (tie.spec returns)
+pub terms_of_spec : {M : Type 1} → statement M
+terms_of_spec = tie.close (tie.spec returns)

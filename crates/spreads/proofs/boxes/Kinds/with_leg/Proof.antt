@@ -8,13 +8,13 @@ unfolding with_kind
 returns c =
     let calls = c.before.before in
     simp (
-      c.with-units2.ensures,
-      calls.with-units.ensures,
+      c.with_units-puts.ensures,
+      calls.with_units.ensures,
       calls.before.before.units.ensures,
     )
 
-pub with-leg-spec : {M : Type 1} → statement M
-with-leg-spec =
+pub with_leg_spec : {M : Type 1} → statement M
+with_leg_spec =
     tie.close
     (tie.spec
     (λ c κs. search rules)
