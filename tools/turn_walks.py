@@ -18,7 +18,12 @@ CHAIN = r"(?:\.[^\s(){}\[\].,;\\\"]+)*"
 
 
 def plain(name):
-    return name.replace("_", "-").lower()
+    return re.sub(r"-(\d+)$", r"\1", name.replace("_", "-").lower())
+
+
+def alike(field, step):
+    """Whether a field is this old step; port.py took some for a fact, with `Is` or a capital."""
+    return plain(field) == plain(step) or plain(field) == "is" + plain(step)
 
 
 def functions(names):
@@ -48,7 +53,10 @@ class Places:
             self.by_old.setdefault(plain(row[0]), i)
         self.by_name = {row[0]: i for i, row in enumerate(self.rows)}
         self.parents = [None if row[1] is None else self.by_name[row[1]] for row in self.rows]
-        self.needs = {plain(old): (new, at[0]) for (old, new), at in zip(of["needs"], of["asked_at"])}
+        self.needs = {}
+        for (old, new), at in zip(of["needs"], of["asked_at"]):
+            for word in (old, new, "overflow-" + old, "nonzero-" + old):
+                self.needs.setdefault(plain(word), (new, at[0]))
         self.order = [(new, at[0]) for (old, new), at in zip(of["needs"], of["asked_at"])]
         self.loops = {plain(old): new for (old, new), _ in of["loops"]}
 
@@ -82,9 +90,33 @@ class Places:
                 return None
 
 
+def by_name(fields, names):
+    """A part of several, by its name: they were pairs of one and the rest."""
+    k, i = 0, 0
+    while k < len(names) - 1:
+        if i >= len(fields) or fields[i] not in "0123456789":
+            return [names[k]] + fields[i:] if i and len(names) > k and fields[i - 1] == "1" else fields
+        if fields[i] == "0":
+            return [names[k]] + fields[i + 1:]
+        if fields[i] != "1":
+            return [names[int(fields[i])]] + fields[i + 1:]
+        k, i = k + 1, i + 1
+    return [names[k]] + fields[i:]
+
+
+def by_parameter(fields, names):
+    k = 0
+    while k < len(fields) and fields[k] == "1":
+        k += 1
+    if k < len(fields) and fields[k] == "0" and k < len(names):
+        return [names[k]] + fields[k + 1:]
+    return fields
+
+
 class Turner:
     def __init__(self, path, of, words, said):
         self.p = Places(of)
+        self.of = of
         self.words = words
         self.said = said
         self.path = path
@@ -93,38 +125,93 @@ class Turner:
     def field_words(self, fields):
         out = []
         for f in fields:
-            out.append(self.words[f] if "-" in f and f in self.words else f)
+            out.append(self.words[f] if "-" in f and f in self.words else {"inv": "invariant"}.get(f, f))
         return out
 
-    def chain(self, start, fields):
+    def of_step(self, target, fields):
+        """The fields of a step, after its name."""
+        if not fields:
+            return fields
+        callee = self.p.rows[target][3]
+        clauses = self.of["clauses"][target]
+        if fields[0] in ("new", "auto", "last") and callee in self.of["params"]:
+            return [fields[0].replace("last", "new")] + by_parameter(fields[1:], self.of["params"][callee])
+        if fields[0] == "ensures" and clauses and len(fields) > 1:
+            return ["ensures"] + by_name(fields[1:], clauses["fields"])
+        return fields
+
+    def of_start(self, fields):
+        if fields[0] in ("pre", "requires"):
+            names = self.of["pre"]["fields"] if self.of["pre"] else None
+            return ["requires"] + (by_name(fields[1:], names) if names and len(fields) > 1 else fields[1:])
+        if fields[:2] == ["args", "result"]:
+            return ["args", "res"] + fields[2:]
+        return fields
+
+    def at_place(self, here, target, rest):
+        """The text of a field of the old place `target`, from today's place `here`; None where it has no such step."""
+        first = rest[0]
+        row = self.p.rows[target]
+        step = row[2]
+        if row[1] is None and first in ("args", "pre", "requires"):
+            return "".join("." + f for f in self.field_words(self.of_start(rest)))
+        if self.p.arms[here]:
+            name, _, entries = self.p.arms[here]
+            for field, old, way in entries:
+                if alike(first, old) and rest[1:1 + len(way)] == way and way:
+                    return "." + name + "." + field + "".join("." + f for f in self.field_words(rest[1 + len(way):]))
+            for field, old, way in entries:
+                if alike(first, old) and not way:
+                    return "." + name + "." + field + "".join("." + f for f in self.field_words(self.of_step(target, rest[1:])))
+        if step[0] and alike(first, step[0]):
+            return "." + step[1] + "".join("." + f for f in self.field_words(self.of_step(target, rest[1:])))
+        return None
+
+    def find(self, start, rest, near):
+        """The step nearest to the old place `near`, of those from `start` upwards."""
+        best, here, count, depth = None, start, 0, 0
+        while here is not None:
+            group, above = self.p.group(here)
+            for t in group:
+                text = self.at_place(here, t, rest)
+                if text is not None and (best is None or abs(depth - near) < best[0]):
+                    best = (abs(depth - near), ".before" * count + text)
+                depth += 1
+            here, count = above, count + 1
+        return best[1] if best else None
+
+    def chain(self, start, fields, base=None):
         """What stands after a name whose place is `start`; answers the text, and the place where it is one."""
         ups = 0
         while ups < len(fields) and fields[ups] == "before":
             ups += 1
         walked = self.p.walk(start, ups)
-        if walked is None:
-            self.said.append(f"{self.path}: too many `.before` from {self.p.rows[start][0]}")
-            return "".join("." + f for f in fields), None
-        count, here, target = walked
-        text = ".before" * count
         rest = fields[ups:]
         if not rest:
-            return text, target
-        step = self.p.rows[target][2]
-        first = rest[0]
-        if self.p.arms[here]:
-            name, _, entries = self.p.arms[here]
-            for field, old, way in entries:
-                if plain(old) == plain(first) and rest[1:1 + len(way)] == way and (way or not rest[1:] or field.endswith("-own")):
-                    return text + "." + name + "." + field + "".join("." + f for f in self.field_words(rest[1 + len(way):])), None
-            for field, old, way in entries:
-                if plain(old) == plain(first) and rest[1:1 + len(way)] == way:
-                    return text + "." + name + "." + field + "".join("." + f for f in self.field_words(rest[1 + len(way):])), None
-        if step[0] and plain(step[0]) == plain(first):
-            return text + "." + step[1] + "".join("." + f for f in self.field_words(rest[1:])), None
-        if first not in ("args", "requires", "pre", "ranges", "facts"):
-            self.said.append(f"{self.path}: no step `{first}` at {self.p.rows[target][0]}")
-        return text + "".join("." + f for f in self.field_words(rest)), None
+            if walked is None:
+                self.said.append(f"{self.path}: too many `.before` from {self.p.rows[start][0]}")
+                while walked is None:
+                    ups -= 1
+                    walked = self.p.walk(start, ups)
+            return ".before" * walked[0], walked[2]
+        if walked:
+            count, here, target = walked
+            text = self.at_place(here, target, rest)
+            if text is not None:
+                return ".before" * count + text, None
+        if base:
+            name, place = base
+            depth, at = 0, place
+            while at is not None and at != start:
+                depth, at = depth + 1, self.p.parents[at]
+            found = self.find(place, rest, depth + ups)
+            if found:
+                return (name, found), None
+        found = self.find(start, rest, ups)
+        if found:
+            return found, None
+        self.said.append(f"{self.path}: no step `{rest[0]}` above {self.p.rows[start][0]}")
+        return "".join("." + f for f in self.field_words(fields)), None
 
     def body(self, text, env):
         env = dict(env)
@@ -139,8 +226,12 @@ class Turner:
         def split(chain):
             return chain.split(".")[1:] if chain else []
 
+        bases = {n: (n, at) for n, at in env.items()}
+
         def of_chain(name, chain):
-            text, place = self.chain(env[name], split(chain))
+            text, place = self.chain(env[name], split(chain), bases.get(name))
+            if isinstance(text, tuple):
+                return text[0] + text[1], place
             return name + text, place
 
         def place_of(value):
@@ -174,6 +265,11 @@ class Turner:
                     out.append(f"let {m.group('let')} = {found[0]} in")
                     if found[1] is not None:
                         env[m.group("let")] = found[1]
+                        root = re.match(r"(" + ID + r")", m.group("value"))
+                        if root and root.group(1) in bases:
+                            bases[m.group("let")] = bases[root.group(1)]
+                        else:
+                            bases.pop(m.group("let"), None)
                     else:
                         env.pop(m.group("let"), None)
                     i = m.end()
@@ -310,6 +406,9 @@ class Turner:
                 continue
             out.append(part)
         text = "".join(out)
+        # A test of `!x` says what x is.
+        atom = r"(?:\((?:[^()]|\([^()]*\))*\)|[^\s()]+)"
+        text = re.sub(r"not-(?:true|false) " + atom + r" ([^\s(),]*\.if-[^\s(),]*)", r"\1", text)
         old = re.compile(r"(?<![\w'-])" + re.escape(name).replace("_", "[-_]") + r"[-_]spec(?![\w'-])")
         return old.sub(name + "_spec", text)
 

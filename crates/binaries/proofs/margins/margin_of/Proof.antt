@@ -5,12 +5,12 @@ use Rattle.binaries.proofs.MarginLaws.{mills_is, margin_most, side_most}
 use Rattle.binaries.proofs.margins.margin_of.Statement.{statement}
 use Rattle.binaries.proofs.margins.margin_of.Tie as tie
 
-mul-result-2 : tie.Need-overflow-mul-result-2
+mul-result-2 : tie.Need-overflow_mul-result-2
 mul-result-2 c =
     let s = c.before.before.before.args in
     let m = margin_most s.side s.spread s.valuation s.expiry s.contracts c.before.before.before.requires.2 in
     let i = mills_is s.side s.spread s.valuation s.expiry s.contracts in
-    rw (c.tenths-at.ensures, c.before.column_of.ensures.0, c.before.before.row_of.ensures.0)
+    rw (c.tenths_at-tenths.ensures, c.before.column_of.ensures.0, c.before.before.row_of.ensures.0)
     (record { fits = omega (arith, side_most s.side) })
 
 returns : tie.Need-returns

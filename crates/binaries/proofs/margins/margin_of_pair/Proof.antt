@@ -5,11 +5,11 @@ use Rattle.binaries.proofs.MarginLaws.{matched_long, matched_short}
 use Rattle.binaries.proofs.margins.margin_of_pair.Statement.{statement}
 use Rattle.binaries.proofs.margins.margin_of_pair.Tie as tie
 
-sub-margin-of : tie.Need-overflow-sub-margin-of
-sub-margin-of c = rw c.before.matched-in.ensures (matched_long _ _)
+sub-margin-of : tie.Need-overflow_sub-bought
+sub-margin-of c = rw c.before.matched_in-matched.ensures (matched_long _ _)
 
-sub-margin-of-2 : tie.Need-overflow-sub-margin-of-2
-sub-margin-of-2 c = rw c.before.before.before.matched-in.ensures (matched_short _ _)
+sub-margin-of-2 : tie.Need-overflow_sub-short
+sub-margin-of-2 c = rw c.before.before.before.matched_in-matched.ensures (matched_short _ _)
 
 returns : tie.Need-returns
 unfolding pair_margin

@@ -5,11 +5,11 @@ use Rattle.binaries.proofs.percentages.tenths_at.Tie as tie
 
 returns : tie.Need-returns-in-Long
 unfolding cell_in
-returns c = rw c.before.enum_told.given.1
+returns c = rw c.before.before.in-Long.is
 
 returns-2 : tie.Need-returns-in-Short
 unfolding cell_in
-returns-2 c = rw c.before.enum-told2.given.1
+returns-2 c = rw c.before.before.in-Short.is
 
 pub tenths_at_spec : {M : Type 1} → statement M
 tenths_at_spec =

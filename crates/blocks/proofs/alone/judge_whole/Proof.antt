@@ -25,7 +25,7 @@ size o = o.before.before.requires
 -- what is known after each test that passed
 
 agree : (c : tie.Else-not-sums_agree) → sums_agree (block c.before.before) ≡ true
-agree c = sym c.before.sums_agree.ensures ∙ not-false c.before.sums_agree.result c.if-not-sums_agree.false
+agree c = sym c.before.sums_agree.ensures ∙ c.if-not-sums_agree.false
 
 shape-said : (c : tie.After-well_shaped) → (let b = block c.before.before.before in c.well_shaped.result ≡ shaped (origin_of b).form b)
 shape-said c =
@@ -36,7 +36,7 @@ abbrev first : tie.Else-not-well_shaped → tie.Else-not-sums_agree
 first c = c.before.before
 
 formed : (c : tie.Else-not-well_shaped) → (let b = block (first c).before.before in shaped (origin_of b).form b ≡ true)
-formed c = sym (shape-said c.before) ∙ not-false c.before.well_shaped.result c.if-not-well_shaped.false
+formed c = sym (shape-said c.before) ∙ c.if-not-well_shaped.false
 
 abbrev origin : tie.After-file_fields_fault → tie.After-origin_of-origin
 origin f = (first f.before).before.before
@@ -57,14 +57,14 @@ returns : tie.Need-returns-then-not-sums_agree
 returns c =
     let s = c.before.before in
     let o = s.before in
-    c.refused.ensures ∙ sym (alone_2 (block o) (size o) (sym s.sums_agree.ensures ∙ not-true s.sums_agree.result c.before.if-not-sums_agree.true))
+    c.refused.ensures ∙ sym (alone_2 (block o) (size o) (sym s.sums_agree.ensures ∙ c.before.if-not-sums_agree.true))
 
 returns-2 : tie.Need-returns-then-not-well_shaped
 returns-2 c =
     let w = c.before.before in
     let o = w.before.before.before in
     c.refused-then-not-well_shaped.ensures
-    ∙ sym (alone_3 (block o) (size o) (agree w.before) (sym (shape-said w) ∙ not-true w.well_shaped.result c.before.if-not-well_shaped.true))
+    ∙ sym (alone_3 (block o) (size o) (agree w.before) (sym (shape-said w) ∙ c.before.if-not-well_shaped.true))
 
 file-fields-fault-requires : tie.Need-file_fields_fault-requires
 file-fields-fault-requires c κs =

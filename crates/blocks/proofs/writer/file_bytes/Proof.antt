@@ -9,11 +9,11 @@ use Rattle.blocks.proofs.writer.file_bytes.Tie as tie
 taken : (c : tie.Then-tables_taken) → (let a = c.before.before.args in Taken a.holdings a.placement a.claims)
 taken c = let a = c.before.before.args in taken_is a.holdings a.placement a.claims (sym c.before.tables_taken.ensures ∙ c.if-tables_taken.true)
 
-mul-result : tie.Need-overflow-mul-result
+mul-result : tie.Need-overflow_mul-result
 mul-result c =
     let t = c.before.before.before in
     let v = taken t in
-    omega (arith, v.holdings.1, v.placement.1, v.claims.1, c.before.before.block_count.ensures, c.before.block-count2.ensures, c.block-count3.ensures)
+    omega (arith, v.holdings.1, v.placement.1, v.claims.1, c.before.before.block_count.ensures, c.before.block_count-then-tables_taken.ensures, c.block_count-then-tables_taken-2.ensures)
 
 returns : tie.Need-returns-then-tables_taken
 unfolding file_bytes

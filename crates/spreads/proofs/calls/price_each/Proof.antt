@@ -48,7 +48,7 @@ returns c =
     let g = r.before.before.before in
     let l = entered g in
     rw c.refused_price.ensures
-    (pricing_stop l.loop-k.inv.3 g.before.before.before.loop-k-test.true (asked_refused _ _ g.price_group.ensures r.in-Refused.is))
+    (pricing_stop l.loop-k.invariant.3 g.before.before.before.loop-k-test.true (asked_refused _ _ g.price_group.ensures r.in-Refused.is))
 
 -- ---- a group that is a spread
 
@@ -87,10 +87,10 @@ loop-again c =
     let g = judged w in
     let l = at w in
     let e = passed w in (
-      rw length-set l.loop-k.inv.0,
+      rw length-set l.loop-k.invariant.0,
       w.before.before.members-in-loop-k-1.given,
       w.before.prices-in-loop-k-1.given,
-      pricing_more l.loop-k.inv.3 g.before.before.before.loop-k-test.taken (omega (arith, room w, l.loop-k.inv.0, (start l).pre.1.1)) e.0
+      pricing_more l.loop-k.invariant.3 g.before.before.before.loop-k-test.taken (omega (arith, room w, l.loop-k.invariant.0, (start l).requires.most_groups_in_bounds)) e.0
           (to_z_pos w64 (omega (arith, small w)) ∙ ap pos e.1) (ap (λ v. l.loop-k.values + v) e.2),
     )
 

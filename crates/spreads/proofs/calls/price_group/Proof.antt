@@ -21,13 +21,13 @@ slice-reshare-prefix-margin-at c = omega (arith, (found c).find_group-found.ensu
 slice-reshare-prefix-margin-at-2 : tie.Need-slice_bounds-margin_at-end-in-Nothing-2
 slice-reshare-prefix-margin-at-2 c =
     let t = c in
-    omega (arith, (found t).find_group-found.ensures.few, t.before.before.before.prices.given, (start (found t)).requires.1.1.1)
+    omega (arith, (found t).find_group-found.ensures.few, c.before.before.prices-1.given, (start (found t)).requires.1.1.1)
 
 margin-at-requires : tie.Need-margin_at-requires
 margin-at-requires c κs =
     let f = found c.before in
     let e = f.find_group-found.ensures in
-    (found_group e (start f).pre.0, found_prices e)
+    (found_group e (start f).requires.checked, found_prices e)
 
 returns : tie.Need-returns-in-Is
 returns c =
@@ -38,7 +38,7 @@ returns-2 : tie.Need-returns-in-Nothing
 returns-2 c =
     let t = c.before.before in
     let e = (found t).find_group-found.ensures in
-    rw (sym e.fault ∙ t.enum_told.given.1)
+    rw (sym e.fault ∙ c.before.in-Nothing.is)
     (ap For (ap_worked (c.margin_at.ensures.0 ∙ ap margin_of (found_legs e)) (c.margin_at.ensures.2 ∙ ap values_of (found_legs e))))
 
 pub price_group_spec : {M : Type 1} → statement M

@@ -21,17 +21,17 @@ returns : tie.Need-returns-then-not-fits_cash invariant-loop decreases-loop
 returns c =
     let m = c.before.before in
     let t = m.before in
-    passed_stop t.before.loop-i.invariant t.loop-i-test.true m.member-leg.ensures (sym c.before.fits_cash.ensures ∙ not-true _ c.if-not-fits_cash.true)
+    passed_stop t.before.loop-i.invariant t.loop-i-test.true m.member-leg.ensures (sym c.before.fits_cash.ensures ∙ c.if-not-fits_cash.true)
 
 -- no group has so many legs
-add-i : tie.Need-overflow-add-i invariant-loop decreases-loop
+add-i : tie.Need-overflow_add-i invariant-loop decreases-loop
 add-i c = omega (arith, members_many c.before.before.before.before.before.before.before.requires)
 
 loop-again : tie.Need-loop-i-preserved invariant-loop decreases-loop
 loop-again c =
     let m = c.before.before in
     let t = m.before in
-    passed_more t.before.loop-i.invariant t.loop-i-test.true m.member-leg.ensures (sym c.before.fits_cash.ensures ∙ not-false _ c.if-not-fits_cash.false)
+    passed_more t.before.loop-i.invariant t.loop-i-test.true m.member-leg.ensures (sym c.before.fits_cash.ensures ∙ c.if-not-fits_cash.false)
 
 returns-2 : tie.Need-returns invariant-loop decreases-loop
 returns-2 c = passed_done c.before.loop-i.invariant c.loop-i-test.false

@@ -8,11 +8,11 @@ use Rattle.spreads.proofs.pairs.doubled_with.Tie as tie
 
 slice-aggregate-first-doubled : tie.Need-slice_bounds-first_doubled-end-2
 slice-aggregate-first-doubled c =
-    let s = c.before.before.before.before.before.before.before.before in
-    sym (length-take-le _ _ (omega (arith, c.before.before.marks.given, s.requires)))
+    let s = c.before.before.before.before.before.before.before in
+    sym (length-take-le _ _ (omega (arith, c.before.marks-1.given, s.requires)))
 
 first-doubled-requires : tie.Need-first_doubled-requires
-first-doubled-requires c κs = marks_taken _ _ _ c.before.before.before.copy_marks.ensures
+first-doubled-requires c κs = marks_taken _ _ _ c.before.before.copy_marks.ensures
 
 pub doubled_with_spec : {M : Type 1} → statement M
 doubled_with_spec =

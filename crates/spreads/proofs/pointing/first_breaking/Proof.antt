@@ -21,7 +21,7 @@ returns c =
     break_here t.before.loop-i.invariant t.loop-i-test.true k.before.member.ensures k.with_leg-facts.ensures (sym c.before.is_broken.ensures ∙ c.if-is_broken.true)
 
 -- a slice has fewer elements
-add-i : tie.Need-overflow-add-i invariant-loop decreases-loop
+add-i : tie.Need-overflow_add-i invariant-loop decreases-loop
 add-i c =
     let s = c.before.before.before.before.before.before.before.before.before in
     omega arith

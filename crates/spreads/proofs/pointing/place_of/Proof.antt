@@ -16,34 +16,34 @@ abbrev start : tie.After-broken_leg-leg → tie.Start
 start c = c.before.before.before.before.before
 
 at_leg : (c : tie.After-broken_leg-leg) → points_at_leg (start c).args.number ≡ true
-at_leg c = sym c.before.before.points_at_leg.ensures ∙ not-false _ c.before.if-not-points_at_leg.false
+at_leg c = sym c.before.before.points_at_leg.ensures ∙ c.before.if-not-points_at_leg.false
 
 short : (c : tie.After-broken_leg-leg) → c.broken_leg-leg.result < length (start c).args.members.now
-short c = leg_short _ _ _ (start c).requires.1.1.1 (at_leg c) c.broken_leg-leg.ensures
+short c = leg_short _ _ _ (start c).requires.breaks (at_leg c) c.broken_leg-leg.ensures
 
 few : (c : tie.After-broken_leg-leg) → length (start c).args.members.now ≤ 256
-few c = members_many (one_group _ _ _ (start c).requires.0 (start c).requires.1.0)
+few c = members_many (one_group _ _ _ (start c).requires.checked (start c).requires.members_of)
 
 returns : tie.Need-returns-then-not-points_at_leg
 unfolding place_of
-returns c = rw (sym c.before.points_at_leg.ensures ∙ not-true _ c.if-not-points_at_leg.true)
+returns c = rw (sym c.before.points_at_leg.ensures ∙ c.if-not-points_at_leg.true)
 
 broken-leg-requires : tie.Need-broken_leg-leg-requires
 broken-leg-requires c κs = let p = c.before.before.before.before.requires in (one_group _ _ _ p.0 p.1.0, p.1.1.0)
 
-mul-result : tie.Need-overflow-mul-result
+mul-result : tie.Need-offset_bounds-members-leg
 mul-result c = omega (arith, short c, few c)
 
 shared-slice-read-result : tie.Need-bounds-members-leg
 shared-slice-read-result c = omega (arith, short c.before)
 
-cast-result : tie.Need-overflow-cast-result
-cast-result c = omega (arith, c.shared-slice-known3.given c.before.broken-leg.result)
+cast-result : tie.Need-overflow_cast-result
+cast-result c = omega (arith, c.shared_slice_known-3-1.given c.before.broken_leg-leg.result)
 
 returns-2 : tie.Need-returns
 returns-2 c =
     let k = c.before in
-    leg_place _ _ _ (start k).requires.1.1.1 (at_leg k) k.broken_leg-leg.ensures _ (start k).requires.1.0
+    leg_place _ _ _ (start k).requires.breaks (at_leg k) k.broken_leg-leg.ensures _ (start k).requires.members_of
 
 pub place_of_spec : {M : Type 1} → statement M
 place_of_spec =

@@ -41,7 +41,7 @@ half : (c : tie.In-Units)
     Half c.in-Units.number (get_or s.prices.now 0 0) (get_or s.prices.now 1 0) (margin_of (legs_at s.placement.now s.members.now)))
 half c =
     let b = boxed c in
-    let p = (begin b).pre in
+    let p = (begin b).requires in
     two_box p.0 p.1 (two b).if-prices-ne2.left _ (sym b.box_at.ensures ∙ c.in-Units.is)
 
 returns-2 : tie.Need-returns-in-Units

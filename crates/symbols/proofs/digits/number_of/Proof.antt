@@ -19,14 +19,14 @@ decreases-loop part value₀ i₀ value i = length part - i
 loop-holds : tie.Need-loop-i-init invariant-loop decreases-loop
 loop-holds c = (omega arith, omega arith, refl)
 
-mul-value : tie.Need-overflow-mul-value invariant-loop decreases-loop
+mul-value : tie.Need-overflow_mul-value invariant-loop decreases-loop
 mul-value c = let l = c.before in omega (arith, value_room l.loop.value l.loop.i l.loop.invariant.1 (omega arith))
 
-add-value : tie.Need-overflow-add-value invariant-loop decreases-loop
+add-value : tie.Need-overflow_add-value invariant-loop decreases-loop
 add-value c =
     let l = c.before.before.before in
     let d = c.digit_value.ensures.1 in
-    record { fits = omega (arith, value_room l.loop.value l.loop.i l.loop.invariant.1 (omega arith)) }
+    record { fits = omega (arith, value_room l.loop-i.value l.loop-i.i l.loop-i.invariant.1 (omega arith)) }
 
 loop-again : tie.Need-loop-i-preserved invariant-loop decreases-loop
 loop-again c =

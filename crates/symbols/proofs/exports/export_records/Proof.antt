@@ -21,12 +21,12 @@ taking c = c.before.before
 
 counted : (c : tie.In-Bytes-2) → let a = (taking c).before.before.before.before.before.args in
     (first_of (record_checks (roots_of a.roots.now) 0 (records_of a.holdings.now)) ≡ Nothing) × (c.in-Bytes.n ≡ length (list_of a.roots.now a.holdings.now))
-counted c = exported_bytes _ _ _ (sym c.in-Bytes.is ∙ (taking c).take_records.ensures.0)
+counted c = exported_bytes _ _ _ (sym c.in-Bytes.is ∙ (taking c).take_records.ensures.value)
 
 -- the lines stand in the text
 standing : (c : tie.In-Bytes-2) → let a = (taking c).before.before.before.before.before.args in
-    (taking c).take_records.new.1.1.0 ≡ put_at (replicate 7936 0) 0 (list_of a.roots.now a.holdings.now)
-standing c = (taking c).take_records.ensures.1 (c.in-Bytes.is ∙ ap Bytes (counted c).1)
+    (taking c).take_records.new.text ≡ put_at (replicate 7936 0) 0 (list_of a.roots.now a.holdings.now)
+standing c = (taking c).take_records.ensures.records_taken (c.in-Bytes.is ∙ ap Bytes (counted c).1)
 
 put-list-requires : tie.Need-put_list-requires
 put-list-requires c κs =
@@ -37,7 +37,7 @@ put-list-requires c κs =
 returns : tie.Need-returns-in-Refused
 returns c =
     let t = c.before.before in
-    (rw (first_stop _ _ _ (exported_refused _ _ _ (sym c.in-Refused.is ∙ t.take_records.ensures.0))), refl)
+    (rw (first_stop _ _ _ (exported_refused _ _ _ (sym c.in-Refused.is ∙ t.take_records.ensures.value))), refl)
 
 returns-2 : tie.Need-returns-in-Bytes
 returns-2 c =
@@ -47,7 +47,7 @@ returns-2 c =
     let q = (counted s).1 in
     let e = p.put_list.ensures in
     let list = list_of a.roots.now a.holdings.now in
-    let front = front_is s.in-Bytes.n (taking s).take_records.new.1.1.0 (replicate 7936 0) list q (standing s) in
+    let front = front_is s.in-Bytes.n (taking s).take_records.new.text (replicate 7936 0) list q (standing s) in
     (rw (first_then _ _ (counted s).0) (rw q at e.0), rw front at e.1)
 
 pub export_records_spec : {M : Type 1} → statement M

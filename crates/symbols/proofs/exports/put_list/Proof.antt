@@ -17,7 +17,7 @@ returns c = (rw (lt-leb _ _ c.if-list-n.true), refl)
 
 slice-aggregate-copy-to : tie.Need-slice_bounds-copy_to-end
 slice-aggregate-copy-to c =
-    let a = c.before.before.before.before.before.args in
+    let a = c.before.before.before.before.args in
     sym (length-take-le a.n a.text.now (omega arith))
 
 returns-2 : tie.Need-returns
@@ -25,10 +25,10 @@ unfolding list_room first_of
 returns-2 c =
     let k = c.before.before in
     let e = k.before.before.before in
-    let a = e.before.before.before.args in
+    let a = c.before.before.before.before.before.before.before.args in
     let lines = take a.n a.text.now in
     let room : 0 + length lines ≤ length a.list.now = simp length-take (omega arith) in
-    (rw (le-leb _ _ e.if1.false), k.copy_to.ensures ∙ put_room a.list.now 0 lines room)
+    (rw (le-leb _ _ c.before.before.before.before.if-list-n.false), k.copy_to.ensures ∙ put_room a.list.now 0 lines room)
 
 pub put_list_spec : {M : Type 1} → statement M
 put_list_spec = tie.close (tie.spec returns slice-aggregate-copy-to (λ c κs. search rules) (λ c. search rules) returns-2)

@@ -42,7 +42,7 @@ returns c =
     let a = l.before.before.before.before.args in (
       rw c.table_number.ensures
           (taking_stop (roots_of a.roots.now) a.holdings.now a.text.now l.loop-i.text l.loop-i.at l.loop-i.i l.loop-i.invariant.3 (omega arith)
-          t.take_record-taken.result.number t.take_record-taken.ensures.0 c.before.if-taken-ne0.true _),
+          t.take_record-taken.result.number t.take_record-taken.ensures.number_value c.before.if-taken-ne0.true _),
       λ q. let z : ◌≡◌ {A = ℕ} 0 1 = cc in absurd (omega arith),
     )
 
@@ -58,9 +58,9 @@ loop-again c =
     let k = l.loop-i.invariant.3 in (
       refl,
       omega arith,
-      t.take_record-taken.auto.1.1.1.0 ∙ l.loop-i.invariant.2,
+      t.take_record-taken.auto.text ∙ l.loop-i.invariant.2,
       taking_more (roots_of roots) a.holdings.now a.text.now l.loop-i.text l.loop-i.at l.loop-i.i k (omega arith) q
-          t.take_record-taken.new.1.1.1.0 t.take_record-taken.result.next t.take_record-taken.auto.1.1.1.0 (e.1.0 c.if-taken-ne0.false)
+          t.take_record-taken.new.text t.take_record-taken.result.next t.take_record-taken.auto.text (e.1.0 c.if-taken-ne0.false)
           (record_short roots (chunk_at 32 a.holdings.now l.loop-i.i) q) (omega (arith, k.small, k.room, z.requires.0)) (e.1.1 c.if-taken-ne0.false),
     )
 

@@ -27,7 +27,7 @@ unfolding record_room first_of
 returns-3 c =
     let k = c.before.before in
     let t = k.before.before.before in
-    (rw (le-leb _ _ t.before.if1.false, le-leb _ _ t.if2.false), k.copy_to.ensures ∙ put_room _ 0 _ (simp length-take (omega arith)))
+    (rw (le-leb _ _ c.before.before.before.before.before.if-n-gt-MOST_LEGS.false, le-leb _ _ c.before.before.before.before.if-holdings-end.false), k.copy_to.ensures ∙ put_room _ 0 _ (simp length-take (omega arith)))
 
 pub put_rows_spec : {M : Type 1} → statement M
 put_rows_spec =

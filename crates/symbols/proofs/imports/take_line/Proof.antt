@@ -16,7 +16,7 @@ use Rattle.symbols.proofs.imports.take_line.Statement.{statement}
 use Rattle.symbols.proofs.imports.take_line.Tie as tie
 
 formed : (t : tie.Then-well_formed) → well_formed t.before.before.before.before.before.args.line.now ≡ true
-formed t = sym t.before.well-formed-2.ensures ∙ t.if-well_formed.true
+formed t = sym t.before.well_formed-2.ensures ∙ t.if-well_formed.true
 
 line-says-requires : tie.Need-line_says-said-requires
 line-says-requires c κs = formed_length _ (formed c)
@@ -27,7 +27,7 @@ slice-aggregate-find-name c = let u = c.before.before.before.before in sym (leng
 find-name-requires : tie.Need-find_name-place-requires
 find-name-requires c κs =
     let u = c.before.before.before.before in
-    length-take-le 6 u.before.before.before.before.before.args.line.now (omega (arith, formed_length _ (formed u)))
+    length-take-le 6 c.before.before.before.before.before.before.before.before.args.line.now (omega (arith, formed_length _ (formed u)))
 
 said : (t : tie.Then-line_in_range) → line_in_range (line_says t.before.before.before.before.before.before.before.before.args.line.now) ≡ true
 said t = rw t.before.before.line_says-said.ensures at (sym t.before.line_in_range.ensures) ∙ t.if-line_in_range.true
@@ -40,15 +40,15 @@ returns c =
     let f = t.before.before.before in
     let s = f.before.before in
     let u = s.before.before.before in
-    let a = u.before.before.before.before.before.args in
+    let a = c.before.before.before.before.before.before.before.before.before.before.before.before.before.before.before.before.before.before.before.args in
     let roots = a.roots.now in
     let xs = a.line.now in
     let place = f.find_name-place.result in
-    let start = u.before.before.before.before.before in
+    let start = u.before.before.before.before in
     let room : 32 * a.i + length b.leg_bytes-bytes.result ≤ length a.rows.now = rw b.leg_bytes-bytes.ensures (omega (arith, length_leg_bytes b.before.line_leg.result, start.requires)) in
     let leg =
-    leg_is roots xs place f.find_name-place.ensures (omega arith) t.terms_at.result s.before.before.line_says.result t.terms_at.ensures
-    s.before.before.line_says.ensures in (
+    leg_is roots xs place f.find_name-place.ensures (omega arith) t.terms_at.result c.before.before.before.before.before.before.before.before.before.before.before.before.before.line_says-said.result t.terms_at.ensures
+    c.before.before.before.before.before.before.before.before.before.before.before.before.before.line_says-said.ensures in (
       number_none (roots_of roots) 0 xs [] (formed u) (said s) (root_known roots xs place f.find_name-place.ensures (omega arith)),
       λ z h. rw (b.leg_bytes-bytes.ensures, b.before.line_leg.ensures, leg) at (k.copy_to.ensures ∙ put_room _ (32 * a.i) _ room),
     )
@@ -58,7 +58,7 @@ returns-2 c =
     let f = c.before.before in
     let s = f.before.before in
     let u = s.before.before.before in
-    let a = u.before.before.before.before.before.args in
+    let a = c.before.before.before.before.before.before.before.before.before.before.before.args in
     let roots = a.roots.now in
     let xs = a.line.now in (
       number_none (roots_of roots) 0 xs [] (formed u) (said s) (root_known roots xs f.find_name-place.result f.find_name-place.ensures (omega arith)),
@@ -70,7 +70,7 @@ returns-3 c =
     let f = c.before in
     let s = f.before.before in
     let u = s.before.before.before in
-    let a = u.before.before.before.before.before.args in
+    let a = c.before.before.before.before.before.before.before.before.before.before.args in
     let roots = a.roots.now in
     let xs = a.line.now in (
       number_unknown (roots_of roots) 0 xs [] (formed u) (said s) (root_unknown roots xs f.find_name-place.result f.find_name-place.ensures (omega arith)),
@@ -87,7 +87,7 @@ returns-4 c =
 returns-5 : tie.Need-returns
 returns-5 c =
     let a = c.before.before.before.before.before.args in
-    (number_malformed (roots_of a.roots.now) 0 a.line.now [] (sym c.before.well-formed-2.ensures ∙ c.if-well_formed.false), λ z h. absurd (omega arith))
+    (number_malformed (roots_of a.roots.now) 0 a.line.now [] (sym c.before.well_formed-2.ensures ∙ c.if-well_formed.false), λ z h. absurd (omega arith))
 
 pub take_line_spec : {M : Type 1} → statement M
 take_line_spec =

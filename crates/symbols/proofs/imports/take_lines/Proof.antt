@@ -45,19 +45,19 @@ returns c =
     let l = e.before.before in
     let a = l.before.before.before.before.args in (
       taking_stop (roots_of a.roots.now) a.list.now a.rows.now l.loop-at.rows l.loop-at.at l.loop-at.i l.loop-at.invariant.1 e.before.loop-at-test.true
-          e.line_end-end.result e.line_end-end.ensures t.take_line-number.result t.take_line-number.ensures.0 c.if-number-ne0.true _,
+          e.line_end-end.result e.line_end-end.ensures t.take_line-number.result t.take_line-number.ensures.value c.if-number-ne0.true _,
       λ q h. let z : ◌≡◌ {A = ℕ} 0 1 = cc in absurd (omega arith),
     )
 
 loop-less : tie.Need-loop-at-smaller invariant-loop decreases-loop
 loop-less c = let e = c.before.before.before.before.before.before in omega (arith, (ends e).0, (ends e).1)
 
-add-i : tie.Need-overflow-add-i invariant-loop decreases-loop
+add-i : tie.Need-overflow_add-i invariant-loop decreases-loop
 add-i c =
     let e = c.before.before.before.before.before.before in
     let l = e.before.before in
     let z = l.before.before.before.before in
-    omega (arith, l.loop.invariant.1.few, l.loop.invariant.1.within)
+    omega (arith, l.loop-at.invariant.1.few, l.loop-at.invariant.1.within)
 
 loop-again : tie.Need-loop-at-preserved invariant-loop decreases-loop
 loop-again c =
@@ -65,10 +65,10 @@ loop-again c =
     let e = t.before.before.before in
     let l = e.before.before in
     let a = l.before.before.before.before.args in (
-      t.take_line-number.auto.1.1.0 ∙ l.loop-at.invariant.0,
+      t.take_line-number.auto.rows ∙ l.loop-at.invariant.0,
       taking_more (roots_of a.roots.now) a.list.now a.rows.now l.loop-at.rows l.loop-at.at l.loop-at.i l.loop-at.invariant.1 e.before.loop-at-test.true
-          e.line_end-end.result e.line_end-end.ensures (sym t.take_line-number.ensures.0 ∙ c.if-number-ne0.false) t.take_line-number.new.1.1.0 t.take_line-number.auto.1.1.0
-          (t.take_line-number.ensures.1 c.if-number-ne0.false),
+          e.line_end-end.result e.line_end-end.ensures (sym t.take_line-number.ensures.value ∙ c.if-number-ne0.false) t.take_line-number.new.rows t.take_line-number.auto.rows
+          (t.take_line-number.ensures.rows_after c.if-number-ne0.false),
     )
 
 returns-2 : tie.Need-returns invariant-loop decreases-loop

@@ -7,7 +7,7 @@ use Rattle.symbols.specs.Lines.{line_says}
 use Rattle.symbols.proofs.lines.line_says.Statement.{statement}
 use Rattle.symbols.proofs.lines.line_says.Tie as tie
 
-add-t11 : tie.Need-overflow-add-t11
+add-t11 : tie.Need-overflow_add-result
 add-t11 c = record { fits = omega (arith, c.number_of.ensures.1) }
 
 returns : tie.Need-returns

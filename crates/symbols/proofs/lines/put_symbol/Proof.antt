@@ -14,7 +14,7 @@ same_length : tie.Need-shape_of-out
 same_length c =
     let d = c.before.before.before.before.before.before.before in
     let k = d.before.before.before.before.before in
-    (simp length-set at c.before.before.put_digits-2.auto.1.1.0) ∙ d.put_digits.auto.1.1.0 ∙ k.copy_to.auto.0
+    (simp length-set at c.before.before.put_digits-2.auto.out) ∙ d.put_digits.auto.out ∙ k.copy_to.auto.to
 
 returns : tie.Need-returns
 returns c =
@@ -24,8 +24,8 @@ returns c =
     let k = d.before.before.before.before.before in
     let z = k.before.before.before.before in
     let a = z.args in
-    symbol_put a.name.now a.leg z.requires.0 a.out.now k.copy_to.new.0 d.put_digits.new.1.1.0 f.put_digits-2.new.1.1.0 a.at
-    r.right_char.result z.requires.1 (d.put_digits.auto.1.1.0 ∙ k.copy_to.auto.0) (k.copy_to.ensures ∙ put_room _ a.at _ (omega (arith, z.requires.0, z.requires.1))) d.put_digits.ensures
+    symbol_put a.name.now a.leg z.requires.0 a.out.now k.copy_to.new.to d.put_digits.new.out f.put_digits-2.new.out a.at
+    r.right_char.result z.requires.1 (d.put_digits.auto.out ∙ k.copy_to.auto.to) (k.copy_to.ensures ∙ put_room _ a.at _ (omega (arith, z.requires.0, z.requires.1))) d.put_digits.ensures
     r.right_char.ensures f.put_digits-2.ensures
 
 pub put_symbol_spec : {M : Type 1} → statement M

@@ -18,7 +18,7 @@ unfolding well_formed
 returns-2 c = rw (le-leb _ _ c.before.if-line-lt-LEAST_LINE.false, lt-leb _ _ c.if-line-gt-LONGEST_LINE.true)
 
 slice-aggregate-good-name : tie.Need-slice_bounds-good_name-end
-slice-aggregate-good-name c = sym (length-take-le 6 c.before.before.before.before.args.line.now (omega arith))
+slice-aggregate-good-name c = sym (length-take-le 6 c.before.before.before.args.line.now (omega arith))
 
 returns-3 : tie.Need-returns
 unfolding well_formed
@@ -30,11 +30,11 @@ returns-3 c =
     let y = r.before.before in
     let n = y.before.before in
     let b = n.before.before in
-    let xs = b.before.before.before.args.line.now in
+    let xs = c.before.before.before.before.before.before.before.before.before.before.before.before.before.before.before.before.before.before.args.line.now in
     let q : length xs - 1 - 24 ≡ length xs - 25 = omega arith in
     rw (
-      le-leb _ _ b.before.if1.false,
-      le-leb _ _ b.if2.false,
+      le-leb _ _ c.before.before.before.before.before.before.before.before.before.before.before.before.before.before.before.before.if-line-lt-LEAST_LINE.false,
+      le-leb _ _ c.before.before.before.before.before.before.before.before.before.before.before.before.before.before.before.if-line-gt-LONGEST_LINE.false,
       d.all_digits-3.ensures,
       s.is_side.ensures,
       k.all_digits-2.ensures,

@@ -8,14 +8,14 @@ use Rattle.symbols.proofs.roots.good_root.Statement.{statement}
 use Rattle.symbols.proofs.roots.good_root.Tie as tie
 
 slice-aggregate-good-name : tie.Need-slice_bounds-good_name-end
-slice-aggregate-good-name c = let z = c.before.before in sym (length-take-le 6 z.args.entry.now (omega arith))
+slice-aggregate-good-name c = let z = c.before in sym (length-take-le 6 z.args.entry.now (omega arith))
 
 returns : tie.Need-returns
 unfolding good_root
 returns c =
     let t = c.before in
     let n = t.before.before in
-    let e = n.before.before.before.args.entry.now in
+    let e = c.before.before.before.before.before.args.entry.now in
     rw (byte_is e 11, t.good_terms.ensures, t.before.entry_terms.ensures, n.good_name.ensures)
 
 pub good_root_spec : {M : Type 1} → statement M

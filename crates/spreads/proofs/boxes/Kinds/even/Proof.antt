@@ -5,7 +5,7 @@ use Rattle.spreads.proofs.boxes.Kinds.even.Tie as tie
 returns : tie.Need-returns
 returns c =
     let n = c.before in
-    simp (n.before.before.balanced.ensures, n.before.balanced2.ensures, n.number.ensures, c.number-2.ensures)
+    simp (c.before.before.before.before.before.before.balanced.ensures, c.before.before.before.before.balanced-2.ensures, c.before.before.number.ensures, c.number-2.ensures)
 
 pub even_spec : {M : Type 1} → statement M
 even_spec =

@@ -9,8 +9,8 @@ returns c =
     let calls = c.before.before in
     simp (
       c.with_units-puts.ensures,
-      calls.with_units.ensures,
-      calls.before.before.units.ensures,
+      c.before.before.before.with_units-calls.ensures,
+      c.before.before.before.before.before.before.units-units.ensures,
     )
 
 pub with_leg_spec : {M : Type 1} → statement M
