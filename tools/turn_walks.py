@@ -90,20 +90,6 @@ class Places:
                 return None
 
 
-def by_name(fields, names):
-    """A part of several, by its name: they were pairs of one and the rest."""
-    k, i = 0, 0
-    while k < len(names) - 1:
-        if i >= len(fields) or fields[i] not in "0123456789":
-            return [names[k]] + fields[i:] if i and len(names) > k and fields[i - 1] == "1" else fields
-        if fields[i] == "0":
-            return [names[k]] + fields[i + 1:]
-        if fields[i] != "1":
-            return [names[int(fields[i])]] + fields[i + 1:]
-        k, i = k + 1, i + 1
-    return [names[k]] + fields[i:]
-
-
 def by_parameter(fields, names):
     k = 0
     while k < len(fields) and fields[k] == "1":
@@ -133,17 +119,13 @@ class Turner:
         if not fields:
             return fields
         callee = self.p.rows[target][3]
-        clauses = self.of["clauses"][target]
         if fields[0] in ("new", "auto", "last") and callee in self.of["params"]:
             return [fields[0].replace("last", "new")] + by_parameter(fields[1:], self.of["params"][callee])
-        if fields[0] == "ensures" and clauses and len(fields) > 1:
-            return ["ensures"] + by_name(fields[1:], clauses["fields"])
         return fields
 
     def of_start(self, fields):
         if fields[0] in ("pre", "requires"):
-            names = self.of["pre"]["fields"] if self.of["pre"] else None
-            return ["requires"] + (by_name(fields[1:], names) if names and len(fields) > 1 else fields[1:])
+            return ["requires"] + fields[1:]
         if fields[:2] == ["args", "result"]:
             return ["args", "res"] + fields[2:]
         return fields
@@ -409,6 +391,17 @@ class Turner:
         # A test of `!x` says what x is.
         atom = r"(?:\((?:[^()]|\([^()]*\))*\)|[^\s()]+)"
         text = re.sub(r"not-(?:true|false) " + atom + r" ([^\s(),]*\.if-[^\s(),]*)", r"\1", text)
+        steps = {row[2][1] for row in self.p.rows}
+
+        def field(m):
+            word = m.group(1)
+            if word in steps:
+                return m.group(0)
+            return "." + {"inv": "invariant", "type-inv": "type_inv", "pre": "requires"}.get(word, self.words.get(word, word) if "-" in word else word)
+
+        text = "\n".join(
+            line if line.startswith("use ") else re.sub(r"(?<=[\w')])\.(" + ID + r")", field, line) for line in text.split("\n"))
+        text = re.sub(r"\bargs\.result\b", "args.res", text)
         old = re.compile(r"(?<![\w'-])" + re.escape(name).replace("_", "[-_]") + r"[-_]spec(?![\w'-])")
         return old.sub(name + "_spec", text)
 

@@ -48,7 +48,7 @@ rises : (c : tie.Else-at-eq0 invariant-loop decreases-loop)
 rises c =
     let w = c.before in
     let l = w.before.before in
-    (start l).requires.rising l.loop-leg.link (w.wide-at.result - 1) (linked c)
+    (start l).requires.1 l.loop-leg.link (w.wide-at.result - 1) (linked c)
 
 -- what is asked of a record
 abbrev asked : tie.At-loop-leg invariant-loop decreases-loop → ℕ → Bool

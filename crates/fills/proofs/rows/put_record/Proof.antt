@@ -18,7 +18,7 @@ abbrev start : tie.Else-held-k-eq0 → tie.Start
 start e = e.before.before.before.before.before.before
 
 fits : (e : tie.Else-held-k-eq0) → let a = (start e).args in 32 * (a.out + 1) ≤ length a.result.now
-fits e = rw (ne_eqb _ 0 e.if-held-k-eq0.false) at (start e).requires.k_in_bounds_2
+fits e = rw (ne_eqb _ 0 e.if-held-k-eq0.false) at (start e).requires.1
 
 -- the row of the record
 row : (w : tie.After-with_contracts-leg)
@@ -52,6 +52,6 @@ put_record_spec =
     (λ c κs. search rules)
     (λ c κs. search rules)
     (λ c κs. omega (arith, fits c.before.before.before.before.before))
-    (λ c. omega (arith, (start c.before.before.before.before.before.before.before.before).requires.k_in_bounds.1))
+    (λ c. omega (arith, (start c.before.before.before.before.before.before.before.before).requires.0.1))
     (λ c. search rules)
     returns-2)

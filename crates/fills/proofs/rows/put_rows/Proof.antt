@@ -25,7 +25,7 @@ put-record-requires c κs =
     let l = c.before.before in
     let z = l.before.before.before.before.before in
     let w = writing_room l.loop-k.invariant.3 (omega arith) in
-    ((omega (arith, z.requires.fills_bound.0, z.requires.fills_bound.1), omega (arith, w, z.requires.fills_len_bound.0)), omega (arith, w, z.requires.fills_len_bound.0, z.requires.fills_len_bound.1, l.loop-k.invariant.2))
+    ((omega (arith, z.requires.0.0, z.requires.0.1), omega (arith, w, z.requires.1.0)), omega (arith, w, z.requires.1.0, z.requires.1.1, l.loop-k.invariant.2))
 
 loop-again : tie.Need-loop-k-preserved invariant-loop decreases-loop
 loop-again c =

@@ -16,8 +16,8 @@ start f = f.before.before.before.before.before
 link-of-requires : tie.Need-link_of-link-requires
 link-of-requires c κs =
     let z = c.before.before.before.before in
-    let s = z.requires.stand_to in
-    ((s.held_room, s.links_room), λ l j t. (let r = s.rising l j t in (omega (arith, r.0, z.requires.k_lt_most_records.0), r.1)))
+    let s = z.requires.0 in
+    ((s.held_room, s.links_room), λ l j t. (let r = s.rising l j t in (omega (arith, r.0, z.requires.1.0), r.1)))
 
 -- where the search ended
 ended : (f : tie.After-link_of-link)
@@ -29,7 +29,7 @@ ended f = f.link_of-link.ensures
 small : (f : tie.After-link_of-link) → (f.link_of-link.result < 2304) × (2304 ≤ length (start f).args.links.now)
 small f =
     let z = start f in
-    (omega (arith, link_small z.requires.stand_to z.requires.k_lt_most_records.0 _ (ended f).path, z.requires.k_lt_most_records.0), z.requires.stand_to.links_room)
+    (omega (arith, link_small z.requires.0 z.requires.1.0 _ (ended f).path, z.requires.1.0), z.requires.0.links_room)
 
 abbrev search-of : tie.Then-at-ne0 → tie.After-link_of-link
 search-of t = t.before.before.before.before
@@ -46,13 +46,13 @@ row : (t : tie.Then-at-ne0) → (t.before.wide-at.result - 1 < 1280) × (1280 �
 row t =
     let f = search-of t in
     let z = start f in
-    (omega (arith, there z.requires.stand_to z.requires.k_lt_most_records.0 z.requires.k_lt_most_records.1 _ (ended f) _ (linked t), z.requires.k_lt_most_records.0), z.requires.stand_to.held_room)
+    (omega (arith, there z.requires.0 z.requires.1.0 z.requires.1.1 _ (ended f) _ (linked t), z.requires.1.0), z.requires.0.held_room)
 
 some : (t : tie.Then-at-ne0) → 1 ≤ (start (search-of t)).args.n
 some t =
     let f = search-of t in
     let z = start f in
-    rows_held z.requires.stand_to z.requires.k_lt_most_records.0 z.requires.k_lt_most_records.1 _ (ended f) _ (linked t)
+    rows_held z.requires.0 z.requires.1.0 z.requires.1.1 _ (ended f) _ (linked t)
 
 -- what is taken
 taken : (m : tie.After-number-taken)
@@ -69,7 +69,7 @@ returns c =
     let f = search-of t in
     let z = start f in
     let lot = get_or z.args.held.now (c.before.before.before.before.before.wide-at.result - 1) 0 in
-    take_some z.requires.stand_to z.requires.k_lt_most_records.0 z.requires.k_lt_most_records.1 _ (ended f) _ (linked t) _ (ap (λ (x : ℕ). lot - x) (taken m)) (rw (taken m) at c.if-taken-lot.true)
+    take_some z.requires.0 z.requires.1.0 z.requires.1.1 _ (ended f) _ (linked t) _ (ap (λ (x : ℕ). lot - x) (taken m)) (rw (taken m) at c.if-taken-lot.true)
 
 returns-2 : tie.Need-returns-then-taken-lot-2
 returns-2 c =
@@ -78,7 +78,7 @@ returns-2 c =
     let t = m.before.before in
     let f = search-of t in
     let z = start f in
-    take_all z.requires.stand_to z.requires.k_lt_most_records.0 z.requires.k_lt_most_records.1 _ (ended f) _ (linked t) (sym (taken m) ∙ t₃.if-taken-lot-2.true)
+    take_all z.requires.0 z.requires.1.0 z.requires.1.1 _ (ended f) _ (linked t) (sym (taken m) ∙ t₃.if-taken-lot-2.true)
 
 returns-3 : tie.Need-returns-else-taken-lot-2
 returns-3 c =
@@ -86,14 +86,14 @@ returns-3 c =
     let t = m.before.before in
     let f = search-of t in
     let z = start f in
-    take_past z.requires.stand_to z.requires.k_lt_most_records.0 z.requires.k_lt_most_records.1 _ (ended f) _ (linked t) (omega (arith, taken m, c.before.if-taken-lot.false, c.if-taken-lot-2.false))
+    take_past z.requires.0 z.requires.1.0 z.requires.1.1 _ (ended f) _ (linked t) (omega (arith, taken m, c.before.if-taken-lot.false, c.if-taken-lot-2.false))
 
 returns-4 : tie.Need-returns-else-at-ne0
 returns-4 c =
     let w = c.before in
     let f = w.before.before.before in
     let z = start f in
-    take_none z.requires.stand_to z.requires.k_lt_most_records.0 z.requires.k_lt_most_records.1 _ (ended f) (sym w.wide-at.ensures ∙ c.if-at-ne0.false)
+    take_none z.requires.0 z.requires.1.0 z.requires.1.1 _ (ended f) (sym w.wide-at.ensures ∙ c.if-at-ne0.false)
 
 pub close_row_spec : {M : Type 1} → statement M
 close_row_spec =

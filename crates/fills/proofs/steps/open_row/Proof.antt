@@ -17,8 +17,8 @@ start f = f.before.before.before.before.before
 link-of-requires : tie.Need-link_of-link-requires
 link-of-requires c κs =
     let z = c.before.before.before.before in
-    let s = z.requires.stand_to in
-    ((s.held_room, s.links_room), λ l j t. (let r = s.rising l j t in (omega (arith, r.0, z.requires.k_lt_most_records.0), r.1)))
+    let s = z.requires.0 in
+    ((s.held_room, s.links_room), λ l j t. (let r = s.rising l j t in (omega (arith, r.0, z.requires.1.0), r.1)))
 
 -- where the search ended
 ended : (f : tie.After-link_of-link)
@@ -30,7 +30,7 @@ ended f = f.link_of-link.ensures
 small : (f : tie.After-link_of-link) → (f.link_of-link.result < 2304) × (2304 ≤ length (start f).args.links.now)
 small f =
     let z = start f in
-    (omega (arith, link_small z.requires.stand_to z.requires.k_lt_most_records.0 _ (ended f).path, z.requires.k_lt_most_records.0), z.requires.stand_to.links_room)
+    (omega (arith, link_small z.requires.0 z.requires.1.0 _ (ended f).path, z.requires.1.0), z.requires.0.links_room)
 
 abbrev search-of : tie.Then-at-ne0 → tie.After-link_of-link
 search-of t = t.before.before.before.before
@@ -47,11 +47,11 @@ row : (t : tie.Then-at-ne0) → (t.before.wide-at.result - 1 < 1280) × (1280 �
 row t =
     let f = search-of t in
     let z = start f in
-    (omega (arith, there z.requires.stand_to z.requires.k_lt_most_records.0 z.requires.k_lt_most_records.1 _ (ended f) _ (linked t), z.requires.k_lt_most_records.0), z.requires.stand_to.held_room)
+    (omega (arith, there z.requires.0 z.requires.1.0 z.requires.1.1 _ (ended f) _ (linked t), z.requires.1.0), z.requires.0.held_room)
 
 -- the record itself
 fresh : (f : tie.After-link_of-link) → ((start f).args.k < 1280) × (1280 ≤ length (start f).args.held.now)
-fresh f = let z = start f in (z.pre.1.0, z.pre.0.held_room)
+fresh f = let z = start f in (z.requires.1.0, z.requires.0.held_room)
 
 returns : tie.Need-returns-then-sum-le-MOST_CONTRACTS
 returns c =
@@ -63,7 +63,7 @@ returns c =
     let l = t.before.before.before in
     let z = start f in
     let lot = get_or z.args.held.now (c.before.before.before.before.before.before.before.wide-at.result - 1) 0 in
-    add_done z.requires.stand_to z.requires.k_lt_most_records.0 z.requires.k_lt_most_records.1 _ (ended f) _ (linked t) _
+    add_done z.requires.0 z.requires.1.0 z.requires.1.1 _ (ended f) _ (linked t) _
     (sum_fits lot c.before.before.before.before.before.before.before.before.before.leg_in-leg.result c.before.before.before.before.of.result p.plus.result m.number-sum.result c.before.before.before.before.of.ensures p.plus.ensures m.number-sum.ensures c.if-sum-le-MOST_CONTRACTS.true
     ∙ ap (λ (x : Leg). lot + x.contracts.0) c.before.before.before.before.before.before.before.before.before.leg_in-leg.ensures)
     c.if-sum-le-MOST_CONTRACTS.true
@@ -76,7 +76,7 @@ returns-2 c =
     let l = w.before.before in
     let f = l.before in
     let z = start f in
-    new_done z.requires.stand_to z.requires.k_lt_most_records.0 z.requires.k_lt_most_records.1 _ (ended f) (sym c.before.before.before.before.wide-at.ensures ∙ c.before.before.before.if-at-ne0.false) c.before.before.if-n-lt-MOST_LEGS.true _ _
+    new_done z.requires.0 z.requires.1.0 z.requires.1.1 _ (ended f) (sym c.before.before.before.before.wide-at.ensures ∙ c.before.before.before.if-at-ne0.false) c.before.before.if-n-lt-MOST_LEGS.true _ _
     (c.number.ensures ∙ ap (λ (x : Leg). x.contracts.0) c.before.before.before.before.before.before.leg_in-leg.ensures)
     (add-one _)
 
@@ -90,7 +90,7 @@ returns-3 c =
     let l = t.before.before.before in
     let z = start f in
     let lot = get_or z.args.held.now (c.before.before.before.before.before.before.before.wide-at.result - 1) 0 in
-    add_past z.requires.stand_to z.requires.k_lt_most_records.0 z.requires.k_lt_most_records.1 _ (ended f) _ (linked t)
+    add_past z.requires.0 z.requires.1.0 z.requires.1.1 _ (ended f) _ (linked t)
     (omega (
       arith,
       sum_past lot c.before.before.before.before.before.before.before.before.before.leg_in-leg.result c.before.before.before.before.of.result p.plus.result m.number-sum.result c.before.before.before.before.of.ensures p.plus.ensures m.number-sum.ensures c.if-sum-le-MOST_CONTRACTS.false,
@@ -103,7 +103,7 @@ returns-4 c =
     let w = e.before in
     let f = w.before.before.before in
     let z = start f in
-    new_full z.requires.stand_to z.requires.k_lt_most_records.0 z.requires.k_lt_most_records.1 _ (ended f) (sym w.wide-at.ensures ∙ e.if-at-ne0.false) c.if-n-lt-MOST_LEGS.false
+    new_full z.requires.0 z.requires.1.0 z.requires.1.1 _ (ended f) (sym w.wide-at.ensures ∙ e.if-at-ne0.false) c.if-n-lt-MOST_LEGS.false
 
 pub open_row_spec : {M : Type 1} → statement M
 open_row_spec =

@@ -26,14 +26,14 @@ returns c =
     let l = t.before in
     let f = l.before.before in
     let s = f.before.before.before in
-    not_fit s.requires.one_group s.requires.in_bounds s.args.low s.args.high f.member-expiry.ensures
+    not_fit s.requires.0 s.requires.1 s.args.low s.args.high f.member-expiry.ensures
     (passed_stop l.loop-i.invariant.0 t.loop-i-test.true m.member-leg.ensures (sym c.before.fits_box.ensures ∙ c.if-not-fits_box.true))
 
 -- no group has so many legs
 add-i : tie.Need-overflow_add-i invariant-loop decreases-loop
 add-i c =
     let s = c.before.before.before.before.before.before.before.before.before.before in
-    omega (arith, members_many s.requires.one_group)
+    omega (arith, members_many s.requires.0)
 
 loop-again : tie.Need-loop-i-preserved invariant-loop decreases-loop
 loop-again c =
@@ -52,7 +52,7 @@ returns-2 c =
     let l = x.before in
     let f = l.before.before in
     let s = f.before.before.before in
-    is_box c.before.before.before.before.before.before.before.before.before.before.requires.one_group c.before.before.before.before.before.before.before.before.before.before.requires.in_bounds c.before.before.before.before.before.before.before.before.before.before.args.low c.before.before.before.before.before.before.before.before.before.before.args.high c.before.before.before.before.before.before.before.member-expiry.ensures (passed_done c.before.before.before.before.before.loop-i.invariant.0 c.before.before.before.before.loop-i-test.false)
+    is_box c.before.before.before.before.before.before.before.before.before.before.requires.0 c.before.before.before.before.before.before.before.before.before.before.requires.1 c.before.before.before.before.before.before.before.before.before.before.args.low c.before.before.before.before.before.before.before.before.before.before.args.high c.before.before.before.before.before.before.before.member-expiry.ensures (passed_done c.before.before.before.before.before.loop-i.invariant.0 c.before.before.before.before.loop-i-test.false)
     (fold_done c.before.before.before.before.before.loop-i.invariant.1 c.before.before.before.before.loop-i-test.false) c.before.before.before.even.ensures c.number.ensures c.before.before.if-low-high.true
 
 returns-3 : tie.Need-returns invariant-loop decreases-loop
@@ -62,7 +62,7 @@ returns-3 c =
     let l = x.before in
     let f = l.before.before in
     let s = f.before.before.before in
-    no_box s.requires.one_group s.requires.in_bounds s.args.low s.args.high f.member-expiry.ensures (passed_done l.loop-i.invariant.0 x.loop-i-test.false)
+    no_box s.requires.0 s.requires.1 s.args.low s.args.high f.member-expiry.ensures (passed_done l.loop-i.invariant.0 x.loop-i-test.false)
     (fold_done l.loop-i.invariant.1 x.loop-i-test.false) v.even.ensures c.if-low-high.false
 
 pub box_at_spec : {M : Type 1} → statement M

@@ -72,14 +72,14 @@ room w = omega (arith, pricing_room _ _ (passed w).0)
 small : (w : tie.In-For-2 invariant-loop decreases-loop) → w.in-For.worked.mills ≤ most_mills
 small w =
     let s = start (at w) in
-    omega (arith, (passed w).1, margin_small s.args.placement.now s.pre.0 ((at w).loop-k.k + 1))
+    omega (arith, (passed w).1, margin_small s.args.placement.now s.requires.0 ((at w).loop-k.k + 1))
 
 -- the work so far and that of this group
 more : (w : tie.In-For-2 invariant-loop decreases-loop) → (at w).loop-k.values + w.in-For.worked.values ≤ 65536
 more w =
     let s = start (at w) in
     let legs = legs_of s.args.placement.now in
-    omega (arith, (at w).loop-k.invariant.3.worked, (passed w).2, work_next legs (at w).loop-k.k, checked_work s.args.placement.now s.pre.0 ((at w).loop-k.k + 1))
+    omega (arith, (at w).loop-k.invariant.3.worked, (passed w).2, work_next legs (at w).loop-k.k, checked_work s.args.placement.now s.requires.0 ((at w).loop-k.k + 1))
 
 loop-again : tie.Need-loop-k-preserved invariant-loop decreases-loop
 loop-again c =
@@ -90,7 +90,7 @@ loop-again c =
       rw length-set l.loop-k.invariant.0,
       w.before.before.members-in-loop-k-1.given,
       w.before.prices-in-loop-k-1.given,
-      pricing_more l.loop-k.invariant.3 g.before.before.before.loop-k-test.taken (omega (arith, room w, l.loop-k.invariant.0, (start l).requires.most_groups_in_bounds)) e.0
+      pricing_more l.loop-k.invariant.3 g.before.before.before.loop-k-test.taken (omega (arith, room w, l.loop-k.invariant.0, (start l).requires.1.1)) e.0
           (to_z_pos w64 (omega (arith, small w)) ∙ ap pos e.1) (ap (λ v. l.loop-k.values + v) e.2),
     )
 
@@ -115,7 +115,7 @@ price_each_spec =
     (λ c. search rules)
     (λ c. omega (arith, small c.before))
     (λ c. omega (arith, room c.before))
-    (λ c. let w = c.before in omega (arith, room w, (at w).loop-k.invariant.0, (start (at w)).pre.1.1))
+    (λ c. let w = c.before in omega (arith, room w, (at w).loop-k.invariant.0, (start (at w)).requires.1.1))
     (λ c. omega (arith, more c.before.before))
     (λ c. omega arith)
     (λ c. omega arith)

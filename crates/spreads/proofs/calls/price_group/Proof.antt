@@ -27,7 +27,7 @@ margin-at-requires : tie.Need-margin_at-requires
 margin-at-requires c κs =
     let f = found c.before in
     let e = f.find_group-found.ensures in
-    (found_group e (start f).requires.checked, found_prices e)
+    (found_group e (start f).requires.0, found_prices e)
 
 returns : tie.Need-returns-in-Is
 returns c =

@@ -21,7 +21,7 @@ unfolding margins_call groups_checks
 returns-2 c =
     let m = c.before in
     let u = m.before.before in
-    (listed_then _ u.before.check_table.ensures _ _ _ u.in-Records.is m.checked_margins.ensures.listed_value, m.checked_margins.ensures.out_after)
+    (listed_then _ u.before.check_table.ensures _ _ _ u.in-Records.is m.checked_margins.ensures.0, m.checked_margins.ensures.1)
 
 pub price_groups_spec : {M : Type 1} → statement M
 price_groups_spec =

@@ -14,7 +14,7 @@ find_alone_spec =
     tie.close
     (tie.spec
     (λ c. search rules)
-    (λ c κs. (c.before.before.before.before.requires.checked, refl))
+    (λ c κs. (c.before.before.before.before.requires.0, refl))
     (λ c. search rules)
     find-group-requires
     (λ c. search rules)

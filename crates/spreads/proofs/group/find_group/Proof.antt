@@ -15,32 +15,32 @@ start f = f.before.before.before.before.before.before
 
 -- the legs have room in their list
 fits : (k : tie.After-slice_known-3-1) → k.before.before.find_members-legs.result ≤ length k.before.before.find_members-legs.new.members
-fits k = let f = k.before.before in omega (arith, f.find-members.ensures.0, k.before.members-1.given, (start f).requires.1.1.0)
+fits k = let f = k.before.before in omega (arith, f.find_members.ensures.0, k.before.members-1.given, (start f).requires.1.1.0)
 
 list-strikes-requires : tie.Need-list_strikes-strikes-requires
 list-strikes-requires c κs =
     let k = c.before.before in
     let f = k.before.before in
-    rw (length-take-le _ _ (fits k)) (omega (arith, c.before.before.before.find_members-legs.ensures.0, (start f).requires.most_legs_in_bounds.1))
+    rw (length-take-le _ _ (fits k)) (omega (arith, c.before.before.before.find_members-legs.ensures.0, (start f).requires.1.1.1))
 
 -- no more strikes than legs, and as many as were counted
 few : (l : tie.After-list_strikes-strikes) → l.list_strikes-strikes.result ≤ 256
 few l =
     let k = l.before.before.before in
-    omega (arith, l.list_strikes-strikes.ensures.upper_bound.0, length-take-le l.before.before.before.before.find_members-legs.result l.before.before.before.before.find_members-legs.new.members (fits k), l.before.before.before.before.find_members-legs.ensures.0)
+    omega (arith, l.list_strikes-strikes.ensures.1.0, length-take-le l.before.before.before.before.find_members-legs.result l.before.before.before.before.find_members-legs.new.members (fits k), l.before.before.before.before.find_members-legs.ensures.0)
 
 counted : (l : tie.After-list_strikes-strikes)
     → (let f = l.before.before.before.before.before in
     l.list_strikes-strikes.result ≡ length (strikes_of (legs_at (start f).args.placement.now (take l.before.before.before.before.find_members-legs.result l.before.before.before.before.find_members-legs.new.members))))
 counted l =
     let f = l.before.before.before.before.before in
-    sym (length-take-le _ _ (omega (arith, few l, l.list_strikes-strikes.ensures.upper_bound.1, (start f).requires.most_legs_in_bounds.1))) ∙ ap length l.list_strikes-strikes.ensures.prices_after
+    sym (length-take-le _ _ (omega (arith, few l, l.list_strikes-strikes.ensures.1.1, (start f).requires.1.1.1))) ∙ ap length l.list_strikes-strikes.ensures.0
 
 members-fault-requires : tie.Need-members_fault-fault-requires
 members-fault-requires c κs =
     let l = c.before.before.before in
     let f = l.before.before.before.before.before in
-    ((start f).requires.checked, (c.before.before.before.before.before.before.find_members-legs.ensures.1, counted l))
+    ((start f).requires.0, (c.before.before.before.before.before.before.find_members-legs.ensures.1, counted l))
 
 returns : tie.Need-returns
 returns c =
@@ -48,7 +48,7 @@ returns c =
     let f = l.before.before.before.before.before in
     record {
       members = c.before.before.before.before.before.before.before.find_members-legs.ensures.1;
-      prices = c.before.before.before.list_strikes-strikes.ensures.prices_after ∙ ap strikes_of (members_are _ _ c.before.before.before.before.before.before.before.find_members-legs.ensures.1);
+      prices = c.before.before.before.list_strikes-strikes.ensures.0 ∙ ap strikes_of (members_are _ _ c.before.before.before.before.before.before.before.find_members-legs.ensures.1);
       few = (c.before.before.before.before.before.before.before.find_members-legs.ensures.0, few l);
       fault = c.members_fault-fault.ensures;
     }

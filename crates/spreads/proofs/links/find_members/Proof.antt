@@ -26,7 +26,7 @@ find_members_spec =
     (tie.spec
     invariant-loop
     decreases-loop
-    (λ c κs. c.before.before.before.requires.linked.long)
+    (λ c κs. c.before.before.before.requires.1.0.long)
     loop-holds
     (λ c. omega arith)
     (λ c. omega arith)

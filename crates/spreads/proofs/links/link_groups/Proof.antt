@@ -63,5 +63,5 @@ link_groups_spec =
     (λ c. rw length-set (omega (arith, group-small c.before.before, c.before.before.before.before.loop-i.invariant.2.long)))
     (λ c. omega arith)
     loop-again
-    (λ c. c.before.loop-i.invariant.2.long ∙ sym (ap length c.before.before.before.before.requires.links_value))
+    (λ c. c.before.loop-i.invariant.2.long ∙ sym (ap length c.before.before.before.before.requires.1))
     returns)

@@ -19,10 +19,10 @@ at_leg : (c : tie.After-broken_leg-leg) → points_at_leg (start c).args.number 
 at_leg c = sym c.before.before.points_at_leg.ensures ∙ c.before.if-not-points_at_leg.false
 
 short : (c : tie.After-broken_leg-leg) → c.broken_leg-leg.result < length (start c).args.members.now
-short c = leg_short _ _ _ (start c).requires.breaks (at_leg c) c.broken_leg-leg.ensures
+short c = leg_short _ _ _ (start c).requires.1.1.1 (at_leg c) c.broken_leg-leg.ensures
 
 few : (c : tie.After-broken_leg-leg) → length (start c).args.members.now ≤ 256
-few c = members_many (one_group _ _ _ (start c).requires.checked (start c).requires.members_of)
+few c = members_many (one_group _ _ _ (start c).requires.0 (start c).requires.1.0)
 
 returns : tie.Need-returns-then-not-points_at_leg
 unfolding place_of
@@ -43,7 +43,7 @@ cast-result c = omega (arith, c.shared_slice_known-3-1.given c.before.broken_leg
 returns-2 : tie.Need-returns
 returns-2 c =
     let k = c.before in
-    leg_place _ _ _ (start k).requires.breaks (at_leg k) k.broken_leg-leg.ensures _ (start k).requires.members_of
+    leg_place _ _ _ (start k).requires.1.1.1 (at_leg k) k.broken_leg-leg.ensures _ (start k).requires.1.0
 
 pub place_of_spec : {M : Type 1} → statement M
 place_of_spec =

@@ -21,10 +21,10 @@ returns c =
     let f = c.before.before.before in
     let t = f.before.before.before in
     let p = (start t.before).requires in
-    (strikes_in _ _ _ _ (ap length p.1) t.if-count-strikes_out.true, (f.fill.ensures.strikes_out_after ∙ ap (put_at _ 0) p.1, f.fill.ensures.nets_out_after))
+    (strikes_in _ _ _ _ (ap length p.1) t.if-count-strikes_out.true, (f.fill.ensures.0 ∙ ap (put_at _ 0) p.1, f.fill.ensures.1))
 
 returns-2 : tie.Need-returns
-returns-2 c = (strikes_out _ _ _ _ (ap length (start c.before).requires.prices_value) c.if-count-strikes_out.false, (refl, refl))
+returns-2 c = (strikes_out _ _ _ _ (ap length (start c.before).requires.1) c.if-count-strikes_out.false, (refl, refl))
 
 pub list_nets_spec : {M : Type 1} → statement M
 list_nets_spec =

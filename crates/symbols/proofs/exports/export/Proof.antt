@@ -28,7 +28,7 @@ unfolding export_call export_checks first_of
 returns c =
     let p = c.before.before in
     let i = p.before.before in
-    (rw (first_then _ _ (passed i.before.before), is_whole i) p.export_records.ensures.value, p.export_records.ensures.list_after)
+    (rw (first_then _ _ (passed i.before.before), is_whole i) p.export_records.ensures.0, p.export_records.ensures.1)
 
 returns-2 : tie.Need-returns-in-Is
 unfolding export_call export_checks

@@ -21,12 +21,12 @@ taking c = c.before.before
 
 counted : (c : tie.In-Bytes-2) → let a = (taking c).before.before.before.before.before.args in
     (first_of (record_checks (roots_of a.roots.now) 0 (records_of a.holdings.now)) ≡ Nothing) × (c.in-Bytes.n ≡ length (list_of a.roots.now a.holdings.now))
-counted c = exported_bytes _ _ _ (sym c.in-Bytes.is ∙ (taking c).take_records.ensures.value)
+counted c = exported_bytes _ _ _ (sym c.in-Bytes.is ∙ (taking c).take_records.ensures.0)
 
 -- the lines stand in the text
 standing : (c : tie.In-Bytes-2) → let a = (taking c).before.before.before.before.before.args in
     (taking c).take_records.new.text ≡ put_at (replicate 7936 0) 0 (list_of a.roots.now a.holdings.now)
-standing c = (taking c).take_records.ensures.records_taken (c.in-Bytes.is ∙ ap Bytes (counted c).1)
+standing c = (taking c).take_records.ensures.1 (c.in-Bytes.is ∙ ap Bytes (counted c).1)
 
 put-list-requires : tie.Need-put_list-requires
 put-list-requires c κs =
@@ -37,7 +37,7 @@ put-list-requires c κs =
 returns : tie.Need-returns-in-Refused
 returns c =
     let t = c.before.before in
-    (rw (first_stop _ _ _ (exported_refused _ _ _ (sym c.in-Refused.is ∙ t.take_records.ensures.value))), refl)
+    (rw (first_stop _ _ _ (exported_refused _ _ _ (sym c.in-Refused.is ∙ t.take_records.ensures.0))), refl)
 
 returns-2 : tie.Need-returns-in-Bytes
 returns-2 c =

@@ -45,7 +45,7 @@ returns c =
     let line : line_text (take (16 * place + 6 - 16 * place) (drop (16 * place) roots)) f.before.before.before.before.before.before.leg_at-leg.result ≡ line_of_record (roots_of roots) r =
     rw (name_is place roots) (line_is roots r place (found f) (omega arith) f.before.before.before.before.before.before.leg_at-leg.result f.before.before.before.before.before.before.leg_at-leg.ensures) in (
       number_none (roots_of roots) 0 r [] (judged u.before true u.if-good_record-leg.true) known,
-      (λ z. rw line at p.put_line-next.ensures.value, λ z. rw line at p.put_line-next.ensures.out_after),
+      (λ z. rw line at p.put_line-next.ensures.0, λ z. rw line at p.put_line-next.ensures.1),
     )
 
 returns-2 : tie.Need-returns-then-good_record-leg

@@ -32,7 +32,7 @@ take-record-requires c κs =
     (omega arith, omega (arith, t.small, t.room, z.requires.0))
 
 same_length : tie.Need-shape_of-text-then-taken-ne0 invariant-loop decreases-loop
-same_length c = let t = c.before.before.before.before.before in t.take-record.auto.1.1.1.0 ∙ t.before.before.before.loop.invariant.2
+same_length c = let t = c.before.before.before.before.before in t.take_record.auto.1.1.1.0 ∙ t.before.before.before.loop.invariant.2
 
 returns : tie.Need-returns-then-taken-ne0 invariant-loop decreases-loop
 unfolding list_of
@@ -42,7 +42,7 @@ returns c =
     let a = l.before.before.before.before.args in (
       rw c.table_number.ensures
           (taking_stop (roots_of a.roots.now) a.holdings.now a.text.now l.loop-i.text l.loop-i.at l.loop-i.i l.loop-i.invariant.3 (omega arith)
-          t.take_record-taken.result.number t.take_record-taken.ensures.number_value c.before.if-taken-ne0.true _),
+          t.take_record-taken.result.number t.take_record-taken.ensures.0 c.before.if-taken-ne0.true _),
       λ q. let z : ◌≡◌ {A = ℕ} 0 1 = cc in absurd (omega arith),
     )
 

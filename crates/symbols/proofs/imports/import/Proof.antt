@@ -14,7 +14,7 @@ unfolding import_call import_checks
 returns-2 c =
     let p = c.before.before in
     let t = p.before.before in
-    (rw (first_then _ _ (sym t.before.root_fault.ensures ∙ t.in-Nothing.is)) p.import_lines.ensures.value, p.import_lines.ensures.holdings_after)
+    (rw (first_then _ _ (sym t.before.root_fault.ensures ∙ t.in-Nothing.is)) p.import_lines.ensures.0, p.import_lines.ensures.1)
 
 pub import_spec : {M : Type 1} → statement M
 import_spec =

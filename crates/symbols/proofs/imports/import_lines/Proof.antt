@@ -20,7 +20,7 @@ taking c = c.before.before
 
 counted : (c : tie.In-Records-2) → let a = (taking c).before.before.before.before.before.args in
     (first_of (line_checks (roots_of a.roots.now) 0 (lines_of a.list.now)) ≡ Nothing) × (c.in-Records.n ≡ length (lines_of a.list.now))
-counted c = imported_records _ _ _ (sym c.in-Records.is ∙ (taking c).take_lines.ensures.value)
+counted c = imported_records _ _ _ (sym c.in-Records.is ∙ (taking c).take_lines.ensures.0)
 
 -- the records of at most 256 lines stand in the rows
 standing : (c : tie.In-Records-2) → c.in-Records.n ≤ 256 → let a = (taking c).before.before.before.before.before.args in
@@ -29,14 +29,14 @@ standing c h =
     let a = (taking c).before.before.before.before.before.args in
     let q = (counted c).1 in
     let rs = records_for (roots_of a.roots.now) (lines_of a.list.now) in
-    let e = (taking c).take_lines.ensures.lines_taken (c.in-Records.is ∙ ap Records q) (omega arith) in
+    let e = (taking c).take_lines.ensures.1 (c.in-Records.is ∙ ap Records q) (omega arith) in
     let n : 32 * c.in-Records.n ≡ length rs = omega (arith, records_length (roots_of a.roots.now) (lines_of a.list.now)) in
     front_is (32 * c.in-Records.n) (taking c).take_lines.new.rows (replicate 8192 0) rs n e
 
 returns : tie.Need-returns-in-Refused
 returns c =
     let t = c.before.before in
-    (rw (first_stop _ _ _ (imported_refused _ _ _ (sym c.in-Refused.is ∙ t.take_lines.ensures.value))), refl)
+    (rw (first_stop _ _ _ (imported_refused _ _ _ (sym c.in-Refused.is ∙ t.take_lines.ensures.0))), refl)
 
 returns-2 : tie.Need-returns-in-Records
 unfolding holdings_of

@@ -36,7 +36,7 @@ take-line-requires : tie.Need-take_line-number-requires invariant-loop decreases
 take-line-requires c κs = c.before.before.before.before.loop-at.invariant.1.room
 
 same_length : tie.Need-shape_of-rows-then-number-ne0 invariant-loop decreases-loop
-same_length c = let t = c.before.before.before in t.take-line.auto.1.1.0 ∙ t.before.before.before.before.before.loop.invariant.0
+same_length c = let t = c.before.before.before in t.take_line.auto.1.1.0 ∙ t.before.before.before.before.before.loop.invariant.0
 
 returns : tie.Need-returns-then-number-ne0 invariant-loop decreases-loop
 returns c =
@@ -45,7 +45,7 @@ returns c =
     let l = e.before.before in
     let a = l.before.before.before.before.args in (
       taking_stop (roots_of a.roots.now) a.list.now a.rows.now l.loop-at.rows l.loop-at.at l.loop-at.i l.loop-at.invariant.1 e.before.loop-at-test.true
-          e.line_end-end.result e.line_end-end.ensures t.take_line-number.result t.take_line-number.ensures.value c.if-number-ne0.true _,
+          e.line_end-end.result e.line_end-end.ensures t.take_line-number.result t.take_line-number.ensures.0 c.if-number-ne0.true _,
       λ q h. let z : ◌≡◌ {A = ℕ} 0 1 = cc in absurd (omega arith),
     )
 
@@ -67,8 +67,8 @@ loop-again c =
     let a = l.before.before.before.before.args in (
       t.take_line-number.auto.rows ∙ l.loop-at.invariant.0,
       taking_more (roots_of a.roots.now) a.list.now a.rows.now l.loop-at.rows l.loop-at.at l.loop-at.i l.loop-at.invariant.1 e.before.loop-at-test.true
-          e.line_end-end.result e.line_end-end.ensures (sym t.take_line-number.ensures.value ∙ c.if-number-ne0.false) t.take_line-number.new.rows t.take_line-number.auto.rows
-          (t.take_line-number.ensures.rows_after c.if-number-ne0.false),
+          e.line_end-end.result e.line_end-end.ensures (sym t.take_line-number.ensures.0 ∙ c.if-number-ne0.false) t.take_line-number.new.rows t.take_line-number.auto.rows
+          (t.take_line-number.ensures.1 c.if-number-ne0.false),
     )
 
 returns-2 : tie.Need-returns invariant-loop decreases-loop
