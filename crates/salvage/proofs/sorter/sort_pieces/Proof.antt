@@ -1,5 +1,4 @@
 use mathlib.Core.Path.{◌≡◌, sym, ap, ◌∙◌}
-use mathlib.Core.Logic.{⊎_elim}
 use Prim.Native.Nat.{◌+◌, ◌-◌, ◌*◌, ◌≤◌}
 use native.Mathlib.Omega.{arith}
 use lib.ListN.{length, length-take}
@@ -12,6 +11,7 @@ use Rattle.salvage.specs.Pieces.{piece_count}
 use Rattle.salvage.proofs.SortLaws.{Sorting, sorting_none, sorting_kept, sorting_dropped, kept_whole, sorted_kept, sorted_dropped, sorted_bytes, sorted_indices, sorted_numbers}
 use Rattle.salvage.proofs.sorter.sort_pieces.Statement.{statement}
 use Rattle.salvage.proofs.sorter.sort_pieces.Tie as tie
+use Rattle.salvage.proofs.sorter.sort_pieces.Lts.{then-number-eq0, else-number-eq0}
 
 -- of the pieces before piece i the kept ones stand one after the other, and the dropped ones are listed
 abbrev invariant-loop : tie.invariant-loop-i
@@ -45,23 +45,25 @@ loop-again c =
     let l = n.before.before in
     let a = (start l).args in
     let i = l.loop-i.i in
-    let p = l.loop-i.invariant.2 in
-    let next =
-    ⊎_elim
-    (λ w.
-    sorting_kept p (omega arith) (sym n.drop_number-number.ensures ∙ w.0.taken)
-    (omega (arith, p.all, (start l).requires.1))
-    (w.6
-    ∙ w.3.ensures
-    ∙ ap (put_in_room l.loop-i.auto (512 * l.loop-i.held)) (part_is 512 i a.bytes.now)
-    ∙ put_room l.loop-i.auto (512 * l.loop-i.held) (chunk_at 512 a.bytes.now i)
-    (simp length-take (omega (arith, p.all, p.kept_long, (start l).requires.1))))
-    w.7 w.8 w.9 w.10)
-    (λ w.
-    sorting_dropped p (omega arith) n.drop_number-number.result n.drop_number-number.ensures w.0.left
-    (omega (arith, p.all, (start l).requires.2)) (omega (arith, p.all, (start l).requires.3)) w.1 w.2 w.3 w.4 w.5)
-    c.if-number-eq0.branch in
-    (l.loop-i.invariant.0, omega arith, next)
+    let p = l.loop-i.invariant.2 in (
+      l.loop-i.invariant.0,
+      omega arith,
+      elim c.if-number-eq0.branch [
+        | then-number-eq0 w ↦
+            sorting_kept p (omega arith) (sym n.drop_number-number.ensures ∙ w.if-number-eq0.true)
+            (omega (arith, p.all, (start l).requires.1))
+            (w.kept-is
+            ∙ w.copy_to.ensures
+            ∙ ap (put_in_room l.loop-i.kept (512 * l.loop-i.held)) (part_is 512 i a.bytes.now)
+            ∙ put_room l.loop-i.kept (512 * l.loop-i.held) (chunk_at 512 a.bytes.now i)
+            (simp length-take (omega (arith, p.all, p.kept_long, (start l).requires.1))))
+            w.indices-is w.numbers-is w.held-is w.listed-is
+        | else-number-eq0 w ↦
+            sorting_dropped p (omega arith) n.drop_number-number.result n.drop_number-number.ensures w.if-number-eq0.false
+            (omega (arith, p.all, (start l).requires.2)) (omega (arith, p.all, (start l).requires.3))
+            w.kept-is w.indices-is w.numbers-is w.held-is w.listed-is
+      ],
+    )
 
 returns : tie.Need-returns invariant-loop decreases-loop
 returns c =
