@@ -18,7 +18,7 @@ loop-holds : tie.Need-loop-filled-init invariant-loop decreases-loop
 loop-holds c = write_none _ _ c.requires
 
 loop-again : tie.Need-loop-filled-preserved invariant-loop decreases-loop
-loop-again c = let l = c.before.before in write_more l.loop.invariant c.before.loop-filled-test.true (pos 0) (to_z-of_z (record { sfits = c.out-1.given }))
+loop-again c = let l = c.before.before in write_more l.loop-filled.invariant c.before.loop-filled-test.true (pos 0) (to_z-of_z (record { sfits = c.out-1.given }))
 
 returns : tie.Need-returns invariant-loop decreases-loop
 returns c = write_all c.before.loop-filled.invariant c.loop-filled-test.false
