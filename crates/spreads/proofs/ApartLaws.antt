@@ -20,6 +20,7 @@ use Rattle.spreads.proofs.StrikeLaws.{insert_above, insert_same, insert_count, s
 
 module _ {A : Type 0} (P : A → Type 0) where
   all_in : (l : List A) {x : A} → All P l → Memᴰ x l → P x
+  all_in [] a m = elim m [ ]
   all_in (y ∷ ys) a (Memᴰ.head q) = rw q a.0
   all_in (y ∷ ys) a (Memᴰ.tail m) = all_in ys a.1 m
 
@@ -30,6 +31,7 @@ module _ {A : Type 0} (P : A → Type 0) where
 -- ---- a strike that comes back
 
 insert_in : (k : ℕ) (s : List ℕ) → Ascending s → Memᴰ k s → insert k s ≡ s
+insert_in k [] a m = elim m [ ]
 insert_in k (y ∷ ys) a (Memᴰ.head q) = insert_same k y ys q
 insert_in k (y ∷ ys) a (Memᴰ.tail m) =
     rw (insert_above k y ys (all_in (λ j. y < j) ys a.0 m), insert_in k ys a.1 m)
@@ -47,6 +49,7 @@ one_more l ls h = omega (arith, insert_count l.strike (strikes_of ls), h)
 
 two_at_one : (legs : List Leg) {a b : Leg} → Memᴰ a legs → Memᴰ b legs → (a ≡ b → ⊥) → a.strike ≡ b.strike
     → length (strikes_of legs) < length legs
+two_at_one [] m o n e = elim m [ ]
 two_at_one (l ∷ ls) (Memᴰ.head p) (Memᴰ.head q) n e = absurd (n (p ∙ sym q))
 two_at_one (l ∷ ls) (Memᴰ.head p) (Memᴰ.tail m) n e = comes_back l ls m (rw (← p) e)
 two_at_one (l ∷ ls) (Memᴰ.tail m) (Memᴰ.head q) n e = comes_back l ls m (rw (← q) (sym e))

@@ -54,7 +54,7 @@ module _ {A : Type 0} (f : A → ℕ) (group : A → ℕ) (l : List A) where
 
   pub by_group : (n : ℕ) → All (λ x. group x ≤ n) l
       → sum_of f l ≡ sum_of f (keep (λ x. eqb (group x) 0) l) + total n (λ g. sum_of f (keep (λ x. eqb (group x) g) l))
-  by_group n a = sum_ext f _ l (all_map l (λ x h. rw (le-leb (group x) n h) refl) a) ∙ by_group_upto n
+  by_group n a = sum_ext f (λ x. only (leb (group x) n) (f x)) l (all_map l (λ x h. rw (le-leb (group x) n h) refl) a) ∙ by_group_upto n
 
 -- ---- totals
 

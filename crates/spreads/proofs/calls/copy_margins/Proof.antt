@@ -2,6 +2,7 @@ use Prim.Native.Nat.{◌-◌}
 use native.Mathlib.Omega.{arith}
 use lib.IntN.{pos}
 use mir.Facts.{to_z-of_z}
+use mir.Syntax.{w64}
 use lib.ListN.{length}
 use borrow.Author.Rules.{rules}
 use Rattle.spreads.proofs.Written.{WrittenSoFar, write_none, write_length, write_more, write_all}
@@ -18,7 +19,7 @@ loop-holds : tie.Need-loop-filled-init invariant-loop decreases-loop
 loop-holds c = write_none _ _ c.requires
 
 loop-again : tie.Need-loop-filled-preserved invariant-loop decreases-loop
-loop-again c = let l = c.before.before in write_more l.loop.invariant c.before.loop-filled-test.true (pos 0) (to_z-of_z (record { sfits = c.out-1.given }))
+loop-again c = let l = c.before.before in write_more l.loop-filled.invariant c.before.loop-filled-test.true (pos 0) (to_z-of_z {w = w64} (record { sfits = c.out-1.given }))
 
 returns : tie.Need-returns invariant-loop decreases-loop
 returns c = write_all c.before.loop-filled.invariant c.loop-filled-test.false

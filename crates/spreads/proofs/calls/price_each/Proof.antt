@@ -52,13 +52,13 @@ returns c =
 
 -- ---- a group that is a spread
 
-abbrev judged : tie.In-For-2 invariant-loop decreases-loop → tie.After-price_group invariant-loop decreases-loop
+abbrev judged : tie.In-For invariant-loop decreases-loop → tie.After-price_group invariant-loop decreases-loop
 judged w = w.before.before.before
 
-abbrev at : tie.In-For-2 invariant-loop decreases-loop → tie.At-loop-k invariant-loop decreases-loop
+abbrev at : tie.In-For invariant-loop decreases-loop → tie.At-loop-k invariant-loop decreases-loop
 at w = entered (judged w)
 
-passed : (w : tie.In-For-2 invariant-loop decreases-loop)
+passed : (w : tie.In-For invariant-loop decreases-loop)
     → (let legs = legs_of (start (at w)).args.placement.now in
     let g = (at w).loop-k.k + 1 in
     (first_of (group_rule g legs) ≡ Nothing)
@@ -66,16 +66,16 @@ passed : (w : tie.In-For-2 invariant-loop decreases-loop)
     × (w.in-For.worked.values ≡ values_of (group_of g legs)))
 passed w = asked_for _ _ (judged w).price_group.ensures w.in-For.is
 
-room : (w : tie.In-For-2 invariant-loop decreases-loop) → (at w).loop-k.k < 32
+room : (w : tie.In-For invariant-loop decreases-loop) → (at w).loop-k.k < 32
 room w = omega (arith, pricing_room _ _ (passed w).0)
 
-small : (w : tie.In-For-2 invariant-loop decreases-loop) → w.in-For.worked.mills ≤ most_mills
+small : (w : tie.In-For invariant-loop decreases-loop) → w.in-For.worked.mills ≤ most_mills
 small w =
     let s = start (at w) in
     omega (arith, (passed w).1, margin_small s.args.placement.now s.requires.0 ((at w).loop-k.k + 1))
 
 -- the work so far and that of this group
-more : (w : tie.In-For-2 invariant-loop decreases-loop) → (at w).loop-k.values + w.in-For.worked.values ≤ 65536
+more : (w : tie.In-For invariant-loop decreases-loop) → (at w).loop-k.values + w.in-For.worked.values ≤ 65536
 more w =
     let s = start (at w) in
     let legs = legs_of s.args.placement.now in
@@ -90,7 +90,7 @@ loop-again c =
       rw length-set l.loop-k.invariant.0,
       w.before.before.members-in-loop-k-1.given,
       w.before.prices-in-loop-k-1.given,
-      pricing_more l.loop-k.invariant.3 g.before.before.before.loop-k-test.taken (omega (arith, room w, l.loop-k.invariant.0, (start l).requires.1.1)) e.0
+      pricing_more l.loop-k.invariant.3 g.before.before.before.loop-k-test.true (omega (arith, room w, l.loop-k.invariant.0, (start l).requires.1.1)) e.0
           (to_z_pos w64 (omega (arith, small w)) ∙ ap pos e.1) (ap (λ v. l.loop-k.values + v) e.2),
     )
 

@@ -25,7 +25,7 @@ slice-reshare-prefix-margin-at-2 c =
 
 margin-at-requires : tie.Need-margin_at-requires
 margin-at-requires c κs =
-    let f = found c.before in
+    let f = found c in
     let e = f.find_group-found.ensures in
     (found_group e (start f).requires.0, found_prices e)
 
@@ -36,7 +36,7 @@ returns c =
 
 returns-2 : tie.Need-returns-in-Nothing
 returns-2 c =
-    let t = c.before.before in
+    let t = c.before in
     let e = (found t).find_group-found.ensures in
     rw (sym e.fault ∙ c.before.in-Nothing.is)
     (ap For (ap_worked (c.margin_at.ensures.0 ∙ ap margin_of (found_legs e)) (c.margin_at.ensures.2 ∙ ap values_of (found_legs e))))

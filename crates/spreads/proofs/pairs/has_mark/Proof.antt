@@ -16,7 +16,7 @@ abbrev decreases-loop : tie.decreases-loop-i
 decreases-loop marks x found₀ i₀ found i = length marks - i
 
 loop-again : tie.Need-loop-i-preserved invariant-loop decreases-loop
-loop-again c = let l = c.before.before in (omega arith, unfound_more l.before.args.marks.now _ _ _ l.loop.invariant.1)
+loop-again c = let l = c.before.before in (omega arith, unfound_more l.before.args.marks.now _ _ _ l.loop-i.invariant.1)
 
 returns : tie.Need-returns invariant-loop decreases-loop
 returns c = let l = c.before.loop-i in λ e p h. l.invariant.1 e p (omega (arith, c.loop-i-test.false))

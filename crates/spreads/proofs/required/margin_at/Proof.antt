@@ -42,10 +42,10 @@ half : (c : tie.In-Units)
 half c =
     let b = boxed c in
     let p = (begin b).requires in
-    two_box p.0 p.1 (two b).if-prices-ne2.left _ (sym b.box_at.ensures ∙ c.in-Units.is)
+    two_box p.0 p.1 (two b).if-prices-ne2.false _ (sym b.box_at.ensures ∙ c.in-Units.is)
 
 returns-2 : tie.Need-returns-in-Units
-returns-2 c = ((half c).is, omega (arith, (half c).small), (two (boxed c)).before.worst_at.ensures.2)
+returns-2 c = ((half c).is, omega (arith, (half c).small), (two (boxed c)).before.worst_at-walked.ensures.2)
 
 -- ---- two strikes, and no long box
 
