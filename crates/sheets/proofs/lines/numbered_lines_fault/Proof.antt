@@ -14,7 +14,7 @@ use Rattle.sheets.proofs.lines.numbered_lines_fault.Statement.{statement}
 use Rattle.sheets.proofs.lines.numbered_lines_fault.Tie as tie
 
 abbrev numbered : tie.After-tally-2 → tie.After-number_lines
-numbered c = c.before.before.before.before.before.before.before.before.before.before
+numbered c = c.before.before.before.before.before.before.before.before
 
 abbrev start : tie.After-tally-2 → tie.Start
 start c = (numbered c).before.before.before.before.before.before.before
@@ -46,14 +46,14 @@ in-placement c =
 
 tally-requires : tie.Need-tally-requires
 tally-requires c κs =
-    let n = c.before.before.before.before in
-    let s = n.before.before.before.before.before.before in
+    let n = c.before.before.before in
+    let s = n.before.before.before.before.before.before.before in
     (((omega arith, omega arith), omega arith), (λ i l. c.before.before.before.number_lines.ensures.0.below i (omega arith), s.requires.1.1.0.1))
 
 tally-requires-2 : tie.Need-tally-requires-2
 tally-requires-2 c κs =
-    let n = c.before.before.before.before.before.before.before.before.before in
-    let s = n.before.before.before.before.before in
+    let n = c.before.before.before.before.before.before.before in
+    let s = n.before.before.before.before.before.before.before in
     (((omega arith, omega arith), omega arith), (λ i l. c.before.before.before.before.before.before.before.number_lines.ensures.0.below i (omega arith), s.requires.1.1.1.1))
 
 -- what the search through either table asks of the numbers and the sums
@@ -61,30 +61,30 @@ ready : (c : tie.After-tally-2)
     → (length (h c) / 32 + length (p c) / 32 ≤ 512) × (length (h c) / 32 + length (p c) / 32 ≤ length (numbers c))
     × (length (held c) ≡ length (numbers c)) × (length (placed c) ≡ length (numbers c))
 ready c =
-    let t = c.before.before.before.before.before in
+    let t = c.before.before.before.before in
     let n = numbered c in
     let s = start c in
     (omega arith, omega arith, omega arith, omega arith)
 
 first-uneven-requires : tie.Need-first_uneven-requires
 first-uneven-requires c κs =
-    let t = c.before.before.before.before.before in
+    let t = c.before.before in
     let n = numbered t in
     let r = ready t in
     (((omega arith, omega arith), λ i l. n.number_lines.ensures.0.below i (omega arith)), (omega arith, omega arith))
 
 first-uneven-requires-2 : tie.Need-first_uneven-requires-in-Nothing
 first-uneven-requires-2 c κs =
-    let t = c.before.before.before.before.before.before.before.before.before.before in
+    let t = c.before.before.before.before in
     let n = numbered t in
     let r = ready t in
     (((omega arith, omega arith), λ i l. n.number_lines.ensures.0.below i (omega arith)), (omega arith, omega arith))
 
 -- the answer of the holdings
 first : (c : tie.After-first_uneven)
-    → (let t = c.before.before.before.before.before.before in
+    → (let t = c.before.before.before in
     c.first_uneven.result ≡ first_of (ask_each (even_at (legs_of (h t)) (legs_of (p t))) 14 1 0 (legs_of (h t))))
-first c = let t = c.before.before.before.before.before.before in c.first_uneven.ensures (even_at (legs_of (h t)) (legs_of (p t))) (in-holdings t)
+first c = let t = c.before.before.before in c.first_uneven.ensures (even_at (legs_of (h t)) (legs_of (p t))) (in-holdings t)
 
 returns : tie.Need-returns-in-Is
 unfolding ask_lines
@@ -93,9 +93,9 @@ returns c = rw (first_append, sym (first c.before) ∙ c.in-Is.is)
 returns-2 : tie.Need-returns-in-Nothing
 unfolding ask_lines
 returns-2 c =
-    let e = c.before.before.before in
-    let f = e.before.before in
-    let t = f.before.before.before.before.before.before in
+    let e = c.before in
+    let f = e.before in
+    let t = f.before.before.before in
     rw (first_append, sym (first f) ∙ c.before.in-Nothing.is) (c.first_uneven-in-Nothing.ensures (even_at (legs_of (h t)) (legs_of (p t))) (in-placement t))
 
 pub numbered_lines_fault_spec : {M : Type 1} → statement M

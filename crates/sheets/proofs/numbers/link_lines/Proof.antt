@@ -1,6 +1,5 @@
 use Prim.Native.Nat.{suc, ◌-◌, ◌+◌, ◌*◌, ◌≤◌, ◌<◌}
 use mathlib.Core.Path.{◌≡◌, refl, sym, ap, ◌∙◌}
-use mathlib.Core.Logic.{⊎_elim}
 use native.Mathlib.Numerals.{add-one}
 use native.Mathlib.Omega.{arith}
 use lib.ListN.{length, get_or, length-set}
@@ -9,6 +8,7 @@ use Rattle.sheets.specs.Steps.Pooled.{pooled_leg, pooled_records}
 use Rattle.sheets.specs.Steps.Links.{bucket_of, digits_of, Ends, Packed, AllWorded}
 use Rattle.sheets.proofs.LinkLaws.{Linked, linked_none, link_small, linked_old, linked_new}
 use Rattle.sheets.proofs.WordLaws.{leg_packed, worded_new}
+use Rattle.sheets.proofs.numbers.link_lines.Lts.{then-found-eq0, else-found-eq0}
 use Rattle.sheets.proofs.numbers.link_lines.Statement.{statement}
 use Rattle.sheets.proofs.numbers.link_lines.Tie as tie
 
@@ -36,60 +36,60 @@ packed t =
 
 -- where the search for record k ends
 ends : (c : tie.After-link_of-link invariant-loop decreases-loop)
-    → (let t = c.before.before.before.before.before.before in
+    → (let t = c.before.before.before in
     let l = t.before.before in
     let a = c.before.before.before.before.before.before.before.before.before.before.before.before.args in
     let leg = c.before.before.before.pooled_leg-leg.result in
     Ends (pooled_leg a.holdings.now a.placement.now) c.before.before.before.before.before.loop-k.links leg (digits_of leg) (bucket_of leg) c.link_of-link.result)
 ends c =
-    let b = c.before.before.before.before in
+    let b = c.before in
     let d = b.before in
     let t = d.before in
     let l = t.before.before in
     c.link_of-link.ensures _ c.before.before.before.before.before.loop-k.invariant.7 c.before.before.before.pooled_leg-leg.result (packed t) c.before.before.digits_of-digits.ensures c.before.bucket_of-bucket.ensures.0
 
 small : (c : tie.After-link_of-link invariant-loop decreases-loop)
-    → (let l = c.before.before.before.before.before.before.before.before in
+    → (let l = c.before.before.before.before.before in
     c.link_of-link.result < 509 + 8 * c.before.before.before.before.before.loop-k.k)
 small c =
-    let t = c.before.before.before.before.before.before in
+    let t = c.before.before.before in
     let l = t.before.before in
-    let s = l.before.before.before.before in
+    let s = l.before.before.before.before.before.before.before in
     link_small _ _ _ _ c.before.before.before.before.before.loop-k.invariant.6 (omega arith) _ c.before.before.before.pooled_leg-leg.ensures _ (ends c)
 
 link-of-requires : tie.Need-link_of-link-requires invariant-loop decreases-loop
 link-of-requires c κs =
-    let b = c.before.before.before in
+    let b = c in
     let l = b.before.before.before.before in
-    let s = l.before.before.before.before in
+    let s = l.before.before.before.before.before.before.before in
     (c.bucket_of-bucket.ensures.1, ((omega arith, omega arith, omega arith), λ i j e. (let r = c.before.before.before.before.loop-k.invariant.6.rising i j e in (omega (arith, r.0), r.1))))
 
 -- there is room for record k in every list
 room : (f : tie.After-link_of-link invariant-loop decreases-loop)
-    → (let l = f.before.before.before.before.before.before.before.before in
+    → (let l = f.before.before.before.before.before in
     (f.before.before.before.before.before.loop-k.k < 512) × (f.before.before.before.before.before.loop-k.k < length f.before.before.before.before.before.loop-k.numbers) × (f.before.before.before.before.before.loop-k.k < length f.before.before.before.before.before.loop-k.lows) × (f.before.before.before.before.before.loop-k.k < length f.before.before.before.before.before.loop-k.highs)
     × (f.link_of-link.result < length f.before.before.before.before.before.loop-k.links))
 room f =
-    let l = f.before.before.before.before.before.before.before.before in
-    let s = l.before.before.before.before in
+    let l = f.before.before.before.before.before in
+    let s = l.before.before.before.before.before.before.before in
     (omega arith, omega arith, omega arith, omega arith, omega (arith, small f))
 
 -- the record that the search finds stands before record k
 found : (c : tie.Else-found-eq0 invariant-loop decreases-loop)
     → (let w = c.before in
     let f = w.before.before in
-    let l = f.before.before.before.before.before.before.before.before in
+    let l = f.before.before.before.before.before in
     (get_or c.before.before.before.before.before.before.before.before.loop-k.links f.link_of-link.result 0 ≡ suc (w.wide-found.result - 1)) × (w.wide-found.result - 1 < c.before.before.before.before.before.before.before.before.loop-k.k))
 found c =
     let w = c.before in
-    let l = w.before.before.before.before.before.before.before.before.before.before in
+    let l = w.before.before.before.before.before.before.before in
     let h = c.if-found-eq0.false in
     let e : w.wide-found.result ≡ suc (w.wide-found.result - 1) = omega arith in
     let g = sym w.wide-found.ensures ∙ e in
     (g, (c.before.before.before.before.before.before.before.before.loop-k.invariant.6.rising _ _ g).0)
 
 after : (c : tie.Joined-found-eq0 invariant-loop decreases-loop)
-    → (let l = c.before.before.before.before.before.before.before.before.before.before.before in
+    → (let l = c.before.before.before.before.before.before.before.before in
     let a = c.before.before.before.before.before.before.before.before.before.before.before.before.before.before.before.args in
     let leg = pooled_leg a.holdings.now a.placement.now in
     (length c.if-found-eq0.numbers ≡ length a.numbers.now) × (length c.if-found-eq0.links ≡ length a.links.now)
@@ -98,35 +98,35 @@ after : (c : tie.Joined-found-eq0 invariant-loop decreases-loop)
 after c =
     let w = c.before in
     let f = w.before.before in
-    let d = f.before.before.before.before.before in
+    let d = f.before.before in
     let t = d.before in
     let l = t.before.before in
-    let s = l.before.before.before.before in
+    let s = l.before.before.before.before.before.before.before in
     let inv = c.before.before.before.before.before.before.before.before.loop-k.invariant in
-    ⊎_elim
-    (λ v.
-    let free = (room f).4 in
-    let e = c.before.before.before.before.before.before.pooled_leg-leg.ensures in (
-      ap length v.1 ∙ simp length-set inv.2,
-      ap length v.2 ∙ simp length-set inv.3,
-      ap length v.3 ∙ simp length-set inv.4,
-      ap length v.4 ∙ simp length-set inv.5,
-      rw (v.1, v.2)
-          (linked_new _ _ _ _ inv.6 (omega arith) _ e _ (ends f) _ _ free (sym w.wide-found.ensures ∙ v.0.taken) refl (add-one _)),
-      rw (v.2, v.3, v.4, add-one)
-          (worded_new (pooled_leg s.args.holdings.now s.args.placement.now) c.before.before.before.before.before.before.before.before.loop-k.lows c.before.before.before.before.before.before.before.before.loop-k.highs c.before.before.before.before.before.before.before.before.loop-k.links inv.7 c.before.before.before.before.before.before.before.before.loop-k.k f.link_of-link.result _ _ inv.6.rising free (room f).2 (room f).3 (rw (sym e) (packed t))
-          (rw (c.before.before.before.before.before.digits_of-digits.ensures, e) refl) (rw (c.before.before.before.before.before.digits_of-digits.ensures, e) refl)),
-    ))
-    (λ v. (
-      ap length v.2 ∙ simp length-set inv.2,
-      ap length v.3 ∙ inv.3,
-      ap length v.4 ∙ inv.4,
-      ap length v.5 ∙ inv.5,
-      rw (v.2, v.3)
-          (linked_old _ _ _ _ inv.6 (omega arith) _ c.before.before.before.before.before.before.pooled_leg-leg.ensures _ (ends f) _ _ (found (record { before = w; if1 = v.0 })).0 refl),
-      rw (v.3, v.4, v.5) inv.7,
-    ))
-    c.if-found-eq0.branch
+    elim c.if-found-eq0.branch [
+      | then-found-eq0 v ↦ (
+          let free = (room f).4 in
+          let e = t.pooled_leg-leg.ensures in (
+            ap length v.numbers-is ∙ simp length-set inv.2,
+            ap length v.links-is ∙ simp length-set inv.3,
+            ap length v.lows-is ∙ simp length-set inv.4,
+            ap length v.highs-is ∙ simp length-set inv.5,
+            rw (v.numbers-is, v.links-is)
+                (linked_new _ _ _ _ inv.6 (omega arith) _ e _ (ends f) _ _ free (sym w.wide-found.ensures ∙ v.if-found-eq0.true) refl (add-one _)),
+            rw (v.links-is, v.lows-is, v.highs-is, add-one)
+                (worded_new (pooled_leg s.args.holdings.now s.args.placement.now) l.loop-k.lows l.loop-k.highs l.loop-k.links inv.7 l.loop-k.k f.link_of-link.result _ _ inv.6.rising free (room f).2 (room f).3 (rw (sym e) (packed t))
+                (rw (d.digits_of-digits.ensures, e) refl) (rw (d.digits_of-digits.ensures, e) refl)),
+          ))
+      | else-found-eq0 v ↦ (
+        ap length v.numbers-is ∙ simp length-set inv.2,
+        ap length v.links-is ∙ inv.3,
+        ap length v.lows-is ∙ inv.4,
+        ap length v.highs-is ∙ inv.5,
+        rw (v.numbers-is, v.links-is)
+            (linked_old _ _ _ _ inv.6 (omega arith) _ t.pooled_leg-leg.ensures _ (ends f) _ _ (found (record { before = w; if-found-eq0 = v.if-found-eq0 })).0 refl),
+        rw (v.links-is, v.lows-is, v.highs-is) inv.7,
+      )
+    ]
 
 loop-again : tie.Need-loop-k-preserved invariant-loop decreases-loop
 loop-again c = let a = after c in (refl, omega arith, a.0, a.1, a.2, a.3, a.4, a.5)
