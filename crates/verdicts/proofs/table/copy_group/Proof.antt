@@ -5,9 +5,9 @@ use Rattle.records.proofs.ChunkLaws.{part_is}
 use native.Mathlib.Omega.{arith}
 use lib.ListN.{length, drop, length-take}
 use mathlib.Core.Path.{◌≡◌, refl, ap, ◌∙◌}
-use mathlib.Core.Logic.{⊎_elim}
 use Prim.Native.Nat.{◌*◌, ◌≤◌, ◌-◌, ◌/◌}
 use borrow.Author.Rules.{rules}
+use Rattle.verdicts.proofs.table.copy_group.Lts.{then-leg_at-g, else-leg_at-g}
 use Rattle.verdicts.proofs.table.copy_group.Statement.{statement}
 use Rattle.verdicts.proofs.table.copy_group.Tie as tie
 
@@ -39,22 +39,22 @@ loop-again c =
     let k = c.before.before in
     let l = k.before.before in
     let a = (start l).args in
-    ⊎_elim
-    (λ w. (
-      omega arith,
-      refl,
-      ap length w.6 ∙ w.3.kept.1.0 ∙ l.loop-place.invariant.2,
-      rw (w.6, w.7)
-          (piece_is (copied_in a.g a.placement.now l.loop-place.place k.leg_at.ensures w.0.taken)
-          (piece_then (omega arith) l.loop-place.invariant.3 (rw (part_is 32 l.loop-place.place a.placement.now) at w.3.ensures))),
-    ))
-    (λ w. (
-      omega arith,
-      refl,
-      ap length w.1 ∙ l.loop-place.invariant.2,
-      rw (w.1, w.2) (piece_is (copied_out a.g a.placement.now l.loop-place.place k.leg_at.ensures w.0.left) l.loop-place.invariant.3),
-    ))
-    c.if-leg_at-g.branch
+    elim c.if-leg_at-g.branch [
+      | then-leg_at-g w ↦ (
+        omega arith,
+        refl,
+        ap length w.table-is ∙ w.put_text-next.auto.out ∙ l.loop-place.invariant.2,
+        rw (w.table-is, w.next-is)
+            (piece_is (copied_in a.g a.placement.now l.loop-place.place k.leg_at.ensures w.if-leg_at-g.true)
+            (piece_then (omega arith) l.loop-place.invariant.3 (rw (part_is 32 l.loop-place.place a.placement.now) at w.put_text-next.ensures))),
+      )
+      | else-leg_at-g w ↦ (
+        omega arith,
+        refl,
+        ap length w.table-is ∙ l.loop-place.invariant.2,
+        rw (w.table-is, w.next-is) (piece_is (copied_out a.g a.placement.now l.loop-place.place k.leg_at.ensures w.if-leg_at-g.false) l.loop-place.invariant.3),
+      )
+    ]
 
 returns : tie.Need-returns invariant-loop decreases-loop
 returns c =

@@ -38,7 +38,7 @@ copied k = piece_front k.copy_group-bytes.ensures
 
 put-worksheet-requires : tie.Need-put_worksheet-requires
 put-worksheet-requires c κs =
-    let k = c.before.before.before.before in
+    let k = c.before.before.before in
     let s = start k in
     let p = s.args.placement.now in
     rw ((copied k).1, table_lines p s.args.g) (table_answered p s.args.g s.requires.0.0, omega (arith, lengths s))
@@ -46,7 +46,7 @@ put-worksheet-requires c κs =
 returns : tie.Need-returns
 returns c =
     let w = c.before.before in
-    let k = w.before.before.before.before.before in
+    let k = w.before.before.before.before in
     let l = k.before.before.before.before in
     let s = start k in
     piece_is (both s)
@@ -60,7 +60,7 @@ put_group_spec =
     (λ c κs. omega (arith, lengths c.before.before.before.before))
     (λ c κs. search rules)
     (λ c. (copied c.before.before).0)
-    (λ c. sym (length-take-le _ _ (copied c.before.before.before).0))
+    (λ c. sym (length-take-le _ _ (copied c.before.before).0))
     put-worksheet-requires
     (λ c. search rules)
     (λ c. search rules)

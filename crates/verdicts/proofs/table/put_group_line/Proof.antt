@@ -9,7 +9,7 @@ use Rattle.verdicts.proofs.table.put_group_line.Statement.{statement}
 use Rattle.verdicts.proofs.table.put_group_line.Tie as tie
 
 abbrev start : tie.After-put_text-first → tie.Start
-start w = w.before.before.before.before
+start w = w.before.before.before.before.before
 
 put-count-requires : tie.Need-put_count-last-requires
 put-count-requires c κs =
@@ -34,7 +34,6 @@ pub put_group_line_spec : {M : Type 1} → statement M
 put_group_line_spec =
     tie.close
     (tie.spec
-    (λ c. search rules)
     (λ c κs. search rules)
     put-count-requires
     put-count-requires-2

@@ -31,7 +31,7 @@ returns c =
     let m = e.before.before.before.before in
     let n = m.before.before.before.before in
     let s = start n in
-    let amount = rw (to_z-of_z s.fits.net) at m.put_amount-last.ensures in
+    let amount = rw (to_z-of_z s.ranges.net) at m.put_amount-last.ensures in
     piece_is (strike_pieces s.args.strike s.args.net)
     (piece_then (omega arith) (piece_then (omega arith) n.put_count-first.ensures amount) e.put_byte.ensures)
 

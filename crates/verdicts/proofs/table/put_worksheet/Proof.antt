@@ -11,25 +11,25 @@ use borrow.Author.Rules.{rules}
 use Rattle.verdicts.proofs.table.put_worksheet.Statement.{statement}
 use Rattle.verdicts.proofs.table.put_worksheet.Tie as tie
 
-abbrev listed : tie.In-Entries-2 → tie.After-worksheet
+abbrev listed : tie.In-Entries → tie.After-worksheet
 listed k = k.before.before.before
 
 abbrev start : tie.After-worksheet → tie.Start
 start w = w.before.before.before.before.before
 
-abbrev legs : tie.In-Entries-2 → List Leg
+abbrev legs : tie.In-Entries → List Leg
 legs k = group_in (start (listed k)).args.placement.now (start (listed k)).args.g
 
-count : (k : tie.In-Entries-2) → k.in-Entries.n ≡ length (strikes_of (legs k))
+count : (k : tie.In-Entries) → k.in-Entries.n ≡ length (strikes_of (legs k))
 count k =
     let w = listed k in
     entries_are (start w).args.placement.now (start w).args.g (start w).requires.0 w.worksheet.ensures.0 k.in-Entries.is
 
-strikes : (k : tie.In-Entries-2)
+strikes : (k : tie.In-Entries)
     → (let l = (listed k).worksheet.new.strikes_out in (k.in-Entries.n ≤ length l) × (take k.in-Entries.n l ≡ strikes_of (legs k)))
 strikes k = listed_front (strikes_of (legs k)) _ _ _ _ (listed k).worksheet.ensures.1.0 k.in-Entries.is (count k)
 
-nets : (k : tie.In-Entries-2)
+nets : (k : tie.In-Entries)
     → (let l = (listed k).worksheet.new.nets_out in (k.in-Entries.n ≤ length l) × (take k.in-Entries.n l ≡ nets_of (legs k)))
 nets k =
     listed_front (nets_of (legs k)) _ _ _ _ (listed k).worksheet.ensures.1.1 k.in-Entries.is (count k ∙ sym (length_nets (legs k)))
