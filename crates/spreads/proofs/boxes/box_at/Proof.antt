@@ -3,7 +3,6 @@ use mathlib.Core.Path.{sym, ◌∙◌}
 use native.Mathlib.Omega.{arith}
 use lib.ListN.{length}
 use borrow.Author.Rules.{rules}
-use borrow.Author.Tests.{not-true, not-false}
 use Rattle.spreads.specs.Steps.Boxed.{fits_box, no_kinds, with_kind}
 use Rattle.spreads.proofs.MemberLaws.{members_many}
 use Rattle.spreads.proofs.Folds.{Folding, fold_none, fold_more, fold_done}

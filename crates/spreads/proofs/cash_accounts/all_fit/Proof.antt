@@ -3,7 +3,6 @@ use mathlib.Core.Path.{sym, ◌∙◌}
 use native.Mathlib.Omega.{arith}
 use lib.ListN.{length}
 use borrow.Author.Rules.{rules}
-use borrow.Author.Tests.{not-true, not-false}
 use Rattle.spreads.specs.Steps.Fitting.{fits_cash}
 use Rattle.spreads.proofs.MemberLaws.{members_many}
 use Rattle.spreads.proofs.BoxTest.{Passed, passed_none, passed_more, passed_stop, passed_done}

@@ -4,7 +4,6 @@ use mathlib.Core.Bool.{true}
 use native.Mathlib.Omega.{arith}
 use lib.ListN.{length}
 use borrow.Author.Rules.{rules}
-use borrow.Author.Tests.{not-true, not-false}
 use Rattle.spreads.specs.Steps.Pointing.{points_at_leg, place_of}
 use Rattle.spreads.proofs.MemberLaws.{members_many}
 use Rattle.spreads.proofs.Naming.{one_group, leg_short, leg_place}
