@@ -26,6 +26,7 @@ const SHORT_TENTHS: [[u16; 4]; 5] = [
 ];
 
 // The row of a swap spread in basis points; a value on an edge takes the higher row.
+#[tactic(auto, unfolding(crate::specs::Percentages::row_of))]
 pub(crate) fn row_of(spread: u64) -> usize
     ensures { (result ≡ row_of spread) × (result < 5) }
 {
