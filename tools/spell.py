@@ -68,7 +68,7 @@ def files(root, endings):
 
 def of_a_function(path):
     """A file of one function's proof: its names are those of goals, which Rattle gives."""
-    return os.path.basename(path) in ("Proof.antt", "Answers.antt", "Invariants.antt")
+    return "/proofs/" in path and os.path.basename(path) in ("Proof.antt", "Answers.antt", "Invariants.antt")
 
 
 def read(path):

@@ -7,8 +7,12 @@
 ghost use Rattle.std.specs.Prelude.{◌≤◌, ◌<◌, length};
 
 use blocks::BLOCK_BYTES;
-use libc::{STDIN_FILENO, STDOUT_FILENO};
 use verdicts::{LINE_BYTES, TABLE_BYTES};
+
+// The standard streams, by their numbers.
+const STDIN: i32 = 0;
+
+const STDOUT: i32 = 1;
 
 // The longest input; what is longer is cut.
 const LONGEST_INPUT: usize = 131072;
@@ -33,13 +37,13 @@ fn print_line(file: &[u8]) {
     let verdict = verdicts::check_file(file);
     let mut line = [0u8; LINE_BYTES];
     let k = verdicts::verdict_line(verdict, &mut line);
-    io::write_all(STDOUT_FILENO, &line[..k]);
+    io::write_all(STDOUT, &line[..k]);
 }
 
 fn print_table(file: &[u8]) {
     let mut text = [0u8; TABLE_BYTES];
     let k = verdicts::table_text(file, &mut text);
-    io::write_all(STDOUT_FILENO, &text[..k]);
+    io::write_all(STDOUT, &text[..k]);
 }
 
 fn print_all(input: &[u8]) {
@@ -54,6 +58,6 @@ fn print_all(input: &[u8]) {
 
 fn main() {
     let mut input = [0u8; LONGEST_INPUT];
-    let n = io::read_full(STDIN_FILENO, &mut input);
+    let n = io::read_full(STDIN, &mut input);
     print_all(&input[..n]);
 }

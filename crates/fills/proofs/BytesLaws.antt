@@ -1,5 +1,5 @@
 -- The table of rows: their records one after the other, read as they were written.
-use Prim.Native.Nat.{ℕ, ◌*◌}
+use Prim.Native.Nat.{◌*◌}
 use mathlib.Core.Path.{◌≡◌, refl, ◌∙◌}
 use mathlib.Core.List.{List, [], ◌∷◌, ◌++◌, map, map-append, flatten}
 use lib.ListN.{length, length-map}

@@ -31,7 +31,7 @@ use Rattle.fills.proofs.PartLaws.{all_mid}
 use Rattle.fills.proofs.ResultLaws.{Passed, passed, opened_new, merged_apart, left_records}
 use Rattle.fills.proofs.RowLaws.{all_opened}
 use Rattle.fills.proofs.BytesLaws.{records_back}
-use Rattle.fills.proofs.UnpaidLaws.{unpaid, starting_is, unpaid_same}
+use Rattle.fills.proofs.UnpaidLaws.{starting_is, unpaid_same}
 
 -- l stands among these
 abbrev In : {A : Type 0} → A → List A → Type 0

@@ -2,7 +2,6 @@
 use mathlib.Core.Path.{◌≡◌, refl, ap}
 use mathlib.Core.Bool.{true, false}
 use mathlib.Core.List.{List, [], ◌∷◌, ◌++◌}
-use Prim.Native.Nat.{ℕ}
 use Rattle.records.specs.Lines.{same_line_side}
 use Rattle.records.specs.Lists.{All}
 use Rattle.records.specs.declared.legs.Leg.{Leg}

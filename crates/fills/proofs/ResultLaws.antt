@@ -16,7 +16,7 @@ use Rattle.records.specs.Listed.{indices_of, numbers_of}
 use Rattle.records.specs.Order.{Check, first_of}
 use Rattle.records.specs.Limits.{most_legs, most_contracts}
 use Rattle.records.specs.Tables.{good_record, table_checks, field_checks, check_call, whole_table}
-use Rattle.records.specs.Written.{put_at, left_after}
+use Rattle.records.specs.Written.{left_after}
 use Rattle.records.specs.declared.legs.Leg.{Leg}
 use Rattle.records.specs.declared.refusals.Fault.{Fault}
 use Rattle.records.specs.declared.refusals.Fault.TheVariants.{Nothing, Is}

@@ -15,7 +15,6 @@ use Rattle.records.specs.Within.{within}
 use Rattle.records.specs.declared.legs.Leg.{Leg}
 use Rattle.records.proofs.ListLaws.{all_of_append}
 use Rattle.records.proofs.TableLaws.{within_true}
-use Rattle.records.specs.Text.{newline}
 use Rattle.symbols.specs.Digits.{blank, is_blank, is_letter, is_digit}
 use Rattle.symbols.specs.Lines.{is_right, is_side, right_char, right_said, side_char, side_said}
 use Rattle.symbols.specs.Roots.{good_name, padded}

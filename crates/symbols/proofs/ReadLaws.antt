@@ -13,7 +13,7 @@ use Rattle.records.specs.Limits.{most_contracts}
 use Rattle.records.specs.Legs.{in_range, terms_in_range}
 use Rattle.records.specs.Lists.{all_of}
 use Rattle.records.specs.Within.{within}
-use Rattle.records.proofs.TableLaws.{ranges, within_true}
+use Rattle.records.proofs.TableLaws.{within_true}
 use Rattle.records.specs.Text.{newline, digit, value_of}
 use Rattle.symbols.specs.Digits.{blank, is_digit, last_digits, places_of}
 use Rattle.symbols.specs.Lines.{root_in, date_in, strike_in, contracts_in, is_right, is_side, right_char, right_said, side_char, side_said, well_formed, line_says, line_in_range, line_leg, symbol_text, line_text}

@@ -12,7 +12,7 @@ ghost use Rattle.spreads.specs.Cash.{cash_call};
 ghost use Rattle.sheets.specs.Verdicts.{verdict_of};
 ghost use Rattle.verdicts.specs.FileVerdicts.{file_verdict};
 ghost use Rattle.verdicts.specs.TableText.{table_text};
-ghost use Rattle.usm_c.specs.Answers.{first_word, dueWords, verdictWords, tableWords, requiredWords};
+ghost use Rattle.usm_c.specs.Answers.{first_word, due_words, verdict_words, table_words, required_words};
 ghost use Rattle.usm_c.specs.Outcomes.{margins_words, margins_left, worksheet_words, strikes_left, nets_left};
 ghost use Rattle.usm_c.specs.Outcomes.{read_words, table_left, origin_left, write_words, out_left, move_words, moved_left};
 ghost use Rattle.usm_c.specs.Outcomes.{mark_words, placement_left, play_words, result_left, indices_left, numbers_left};
@@ -36,7 +36,7 @@ use words::{
 #[unsafe(no_mangle)]
 pub extern "C" fn usm_check_table(kind: u64, table: &[u8], answer: &mut [u64; 4]) -> u64
     ensures value { result ≡ first_word answer.new }
-    ensures answer_after { answer.new ≡ tableWords kind table.now }
+    ensures answer_after { answer.new ≡ table_words kind table.now }
 {
     tell(table_words(kind, table), answer)
 }
@@ -45,7 +45,7 @@ pub extern "C" fn usm_check_table(kind: u64, table: &[u8], answer: &mut [u64; 4]
 #[unsafe(no_mangle)]
 pub extern "C" fn usm_margin(placement: &[u8], g: u64, answer: &mut [u64; 4]) -> u64
     ensures value { result ≡ first_word answer.new }
-    ensures answer_after { answer.new ≡ dueWords (margin_call placement.now g) }
+    ensures answer_after { answer.new ≡ due_words (margin_call placement.now g) }
 {
     tell(due_words(spreads::margin(placement, g as usize)), answer)
 }
@@ -54,7 +54,7 @@ pub extern "C" fn usm_margin(placement: &[u8], g: u64, answer: &mut [u64; 4]) ->
 #[unsafe(no_mangle)]
 pub extern "C" fn usm_cash(placement: &[u8], g: u64, answer: &mut [u64; 4]) -> u64
     ensures value { result ≡ first_word answer.new }
-    ensures answer_after { answer.new ≡ dueWords (cash_call placement.now g) }
+    ensures answer_after { answer.new ≡ due_words (cash_call placement.now g) }
 {
     tell(due_words(spreads::cash(placement, g as usize)), answer)
 }
@@ -106,7 +106,7 @@ pub extern "C" fn usm_check_sheet(
     answer: &mut [u64; 4],
 ) -> u64
     ensures value { result ≡ first_word answer.new }
-    ensures answer_after { answer.new ≡ verdictWords (verdict_of holdings.now placement.now claims.now) }
+    ensures answer_after { answer.new ≡ verdict_words (verdict_of holdings.now placement.now claims.now) }
 {
     tell(
         verdict_words(sheets::check_sheet(holdings, placement, claims)),
@@ -128,7 +128,7 @@ pub extern "C" fn usm_mark_paid(placement: &mut [u8], answer: &mut [u64; 4]) -> 
 #[unsafe(no_mangle)]
 pub extern "C" fn usm_check_file(file: &[u8], answer: &mut [u64; 4]) -> u64
     ensures value { result ≡ first_word answer.new }
-    ensures answer_after { answer.new ≡ verdictWords (file_verdict file.now) }
+    ensures answer_after { answer.new ≡ verdict_words (file_verdict file.now) }
 {
     tell(verdict_words(verdicts::check_file(file)), answer)
 }
@@ -291,7 +291,7 @@ pub extern "C" fn usm_binary_margin(
     answer: &mut [u64; 4],
 ) -> u64
     ensures value { result ≡ first_word answer.new }
-    ensures answer_after { answer.new ≡ requiredWords (single_as side spread valuation expiry contracts) }
+    ensures answer_after { answer.new ≡ required_words (single_as side spread valuation expiry contracts) }
 {
     tell(
         required_words(single_as(side, spread, valuation, expiry, contracts)),
@@ -315,7 +315,7 @@ pub extern "C" fn usm_binary_pair(
     answer: &mut [u64; 4],
 ) -> u64
     ensures value { result ≡ first_word answer.new }
-    ensures answer_after { answer.new ≡ requiredWords (pair_as valuation
+    ensures answer_after { answer.new ≡ required_words (pair_as valuation
         (position long_reference long_spread long_expiry long_contracts) long_paid
         (position short_reference short_spread short_expiry short_contracts)) }
 {

@@ -1,6 +1,6 @@
 // Form and account as words: form 1 or 2, and the account's number.
 ghost use Rattle.std.specs.Prelude.{◌≡◌, length};
-ghost use Rattle.usm_c.specs.Answers.{originWords};
+ghost use Rattle.usm_c.specs.Answers.{origin_words};
 ghost use Rattle.usm_c.specs.Outcomes.{lent_tables, write_as, written_as};
 
 use blocks::{Form, Origin, Reading, Writing};
@@ -8,7 +8,7 @@ use records::Refusal;
 
 // Form and account of what was read; on a refusal nothing is written.
 pub(crate) fn put_origin(reading: Reading, origin: &mut [u64; 2])
-    ensures { origin.new ≡ originWords reading origin.old }
+    ensures { origin.new ≡ origin_words reading origin.old }
 {
     match reading {
         Reading::Read(_, found) => {

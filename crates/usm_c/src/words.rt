@@ -1,8 +1,8 @@
 // The four words of each kind of answer, and how they are told.
 ghost use Rattle.std.specs.Prelude.{◌≡◌};
-ghost use Rattle.usm_c.specs.Answers.{first_word, doneWords, refusedWords, countedWords, dueWords, listedWords, verdictWords};
-ghost use Rattle.usm_c.specs.Answers.{readingWords, writingWords, markedWords, playedWords, importedWords, exportedWords};
-ghost use Rattle.usm_c.specs.Answers.{salvagedWords, requiredWords, tableWords, DueMills, VerdictMills, RequiredMills};
+ghost use Rattle.usm_c.specs.Answers.{first_word, done_words, refused_words, counted_words, due_words, listed_words, verdict_words};
+ghost use Rattle.usm_c.specs.Answers.{reading_words, writing_words, marked_words, played_words, imported_words, exported_words};
+ghost use Rattle.usm_c.specs.Answers.{salvaged_words, required_words, table_words, DueMills, VerdictMills, RequiredMills};
 
 use binaries::Required;
 use blocks::{Reading, Writing};
@@ -24,19 +24,19 @@ pub(crate) fn tell(words: [u64; 4], answer: &mut [u64; 4]) -> u64
 
 // Success, and what it says.
 fn done(a: u64, b: u64, c: u64) -> [u64; 4]
-    ensures { result ≡ doneWords a b c }
+    ensures { result ≡ done_words a b c }
 {
     [0, a, b, c]
 }
 
 fn refused(r: Refusal) -> [u64; 4]
-    ensures { result ≡ refusedWords r }
+    ensures { result ≡ refused_words r }
 {
     [r.number as u64, r.table as u64, r.place as u64, 0]
 }
 
 fn counted_words(counted: Counted) -> [u64; 4]
-    ensures { result ≡ countedWords counted }
+    ensures { result ≡ counted_words counted }
 {
     match counted {
         Counted::Records(n) => done(n as u64, 0, 0),
@@ -46,7 +46,7 @@ fn counted_words(counted: Counted) -> [u64; 4]
 
 pub(crate) fn due_words(due: Due) -> [u64; 4]
     requires { DueMills due }
-    ensures { result ≡ dueWords due }
+    ensures { result ≡ due_words due }
 {
     match due {
         Due::Mills(mills) => done(mills as u64, 0, 0),
@@ -56,7 +56,7 @@ pub(crate) fn due_words(due: Due) -> [u64; 4]
 
 pub(crate) fn required_words(required: Required) -> [u64; 4]
     requires { RequiredMills required }
-    ensures { result ≡ requiredWords required }
+    ensures { result ≡ required_words required }
 {
     match required {
         Required::Mills(mills) => done(mills as u64, 0, 0),
@@ -65,7 +65,7 @@ pub(crate) fn required_words(required: Required) -> [u64; 4]
 }
 
 pub(crate) fn listed_words(listed: Listed) -> [u64; 4]
-    ensures { result ≡ listedWords listed }
+    ensures { result ≡ listed_words listed }
 {
     match listed {
         Listed::Entries(n) => done(n as u64, 0, 0),
@@ -75,7 +75,7 @@ pub(crate) fn listed_words(listed: Listed) -> [u64; 4]
 
 pub(crate) fn verdict_words(verdict: Verdict) -> [u64; 4]
     requires { VerdictMills verdict }
-    ensures { result ≡ verdictWords verdict }
+    ensures { result ≡ verdict_words verdict }
 {
     match verdict {
         Verdict::Accepted(groups, total, values) => {
@@ -86,7 +86,7 @@ pub(crate) fn verdict_words(verdict: Verdict) -> [u64; 4]
 }
 
 pub(crate) fn reading_words(reading: Reading) -> [u64; 4]
-    ensures { result ≡ readingWords reading }
+    ensures { result ≡ reading_words reading }
 {
     match reading {
         Reading::Read(counts, _) => done(
@@ -99,7 +99,7 @@ pub(crate) fn reading_words(reading: Reading) -> [u64; 4]
 }
 
 pub(crate) fn writing_words(writing: Writing) -> [u64; 4]
-    ensures { result ≡ writingWords writing }
+    ensures { result ≡ writing_words writing }
 {
     match writing {
         Writing::Wrote(n) => done(n as u64, 0, 0),
@@ -108,7 +108,7 @@ pub(crate) fn writing_words(writing: Writing) -> [u64; 4]
 }
 
 pub(crate) fn marked_words(marked: Marked) -> [u64; 4]
-    ensures { result ≡ markedWords marked }
+    ensures { result ≡ marked_words marked }
 {
     match marked {
         Marked::Marks(n) => done(n as u64, 0, 0),
@@ -117,7 +117,7 @@ pub(crate) fn marked_words(marked: Marked) -> [u64; 4]
 }
 
 pub(crate) fn played_words(played: Played) -> [u64; 4]
-    ensures { result ≡ playedWords played }
+    ensures { result ≡ played_words played }
 {
     match played {
         Played::Done(records, refusals) => done(records as u64, refusals as u64, 0),
@@ -126,7 +126,7 @@ pub(crate) fn played_words(played: Played) -> [u64; 4]
 }
 
 pub(crate) fn imported_words(imported: Imported) -> [u64; 4]
-    ensures { result ≡ importedWords imported }
+    ensures { result ≡ imported_words imported }
 {
     match imported {
         Imported::Records(n) => done(n as u64, 0, 0),
@@ -135,7 +135,7 @@ pub(crate) fn imported_words(imported: Imported) -> [u64; 4]
 }
 
 pub(crate) fn exported_words(exported: Exported) -> [u64; 4]
-    ensures { result ≡ exportedWords exported }
+    ensures { result ≡ exported_words exported }
 {
     match exported {
         Exported::Bytes(n) => done(n as u64, 0, 0),
@@ -144,7 +144,7 @@ pub(crate) fn exported_words(exported: Exported) -> [u64; 4]
 }
 
 pub(crate) fn salvaged_words(salvaged: Salvaged) -> [u64; 4]
-    ensures { result ≡ salvagedWords salvaged }
+    ensures { result ≡ salvaged_words salvaged }
 {
     match salvaged {
         Salvaged::Saved(bytes, entries) => done(bytes as u64, entries as u64, 0),
@@ -154,7 +154,7 @@ pub(crate) fn salvaged_words(salvaged: Salvaged) -> [u64; 4]
 
 // Of the table with this number.
 pub(crate) fn table_words(kind: u64, table: &[u8]) -> [u64; 4]
-    ensures { result ≡ tableWords kind table.now }
+    ensures { result ≡ table_words kind table.now }
 {
     match kind {
         1 => counted_words(records::check_table(Kind::Holdings, table)),

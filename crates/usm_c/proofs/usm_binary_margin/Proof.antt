@@ -1,6 +1,6 @@
 use Rattle.usm_c.proofs.Amounts.{single_mills}
 use mathlib.Core.Path.{ap, ◌∙◌}
-use Rattle.usm_c.specs.Answers.{requiredWords}
+use Rattle.usm_c.specs.Answers.{required_words}
 use borrow.Author.Rules.{rules}
 use Rattle.usm_c.proofs.usm_binary_margin.Statement.{statement}
 use Rattle.usm_c.proofs.usm_binary_margin.Tie as tie
@@ -11,7 +11,7 @@ required-words-requires c κs = rw c.single-as.ensures (single_mills _ _ _ _ _)
 returns : tie.Need-returns
 returns c =
     let w = c.before.before in
-    (c.tell.ensures.0, c.tell.ensures.1 ∙ w.required-words.ensures ∙ ap requiredWords w.before.single-as.ensures)
+    (c.tell.ensures.0, c.tell.ensures.1 ∙ w.required-words.ensures ∙ ap required_words w.before.single-as.ensures)
 
 pub usm-binary-margin-spec : {M : Type 1} → statement M
 usm-binary-margin-spec = tie.close (tie.spec (λ c κs. search rules) required-words-requires (λ c κs. search rules) returns)

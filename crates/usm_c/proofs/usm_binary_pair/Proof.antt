@@ -1,6 +1,6 @@
 use Rattle.usm_c.proofs.Amounts.{pair_mills}
 use mathlib.Core.Path.{ap, ◌∙◌}
-use Rattle.usm_c.specs.Answers.{requiredWords}
+use Rattle.usm_c.specs.Answers.{required_words}
 use borrow.Author.Rules.{rules}
 use Rattle.usm_c.proofs.usm_binary_pair.Statement.{statement}
 use Rattle.usm_c.proofs.usm_binary_pair.Tie as tie
@@ -11,7 +11,7 @@ required-words-requires c κs = rw c.pair-as.ensures (pair_mills _ _ _ _)
 returns : tie.Need-returns
 returns c =
     let w = c.before.before in
-    (c.tell.ensures.0, c.tell.ensures.1 ∙ w.required-words.ensures ∙ ap requiredWords w.before.pair-as.ensures)
+    (c.tell.ensures.0, c.tell.ensures.1 ∙ w.required-words.ensures ∙ ap required_words w.before.pair-as.ensures)
 
 pub usm-binary-pair-spec : {M : Type 1} → statement M
 usm-binary-pair-spec = tie.close (tie.spec (λ c κs. search rules) required-words-requires (λ c κs. search rules) returns)

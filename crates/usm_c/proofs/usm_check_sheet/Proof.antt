@@ -1,6 +1,6 @@
 use Rattle.usm_c.proofs.Amounts.{sheet_mills}
 use mathlib.Core.Path.{ap, ◌∙◌}
-use Rattle.usm_c.specs.Answers.{verdictWords}
+use Rattle.usm_c.specs.Answers.{verdict_words}
 use borrow.Author.Rules.{rules}
 use Rattle.usm_c.proofs.usm_check_sheet.Statement.{statement}
 use Rattle.usm_c.proofs.usm_check_sheet.Tie as tie
@@ -11,7 +11,7 @@ verdict-words-requires c κs = rw c.check-sheet.ensures (sheet_mills _ _ _)
 returns : tie.Need-returns
 returns c =
     let w = c.before.before in
-    (c.tell.ensures.0, c.tell.ensures.1 ∙ w.verdict-words.ensures ∙ ap verdictWords w.before.check-sheet.ensures)
+    (c.tell.ensures.0, c.tell.ensures.1 ∙ w.verdict-words.ensures ∙ ap verdict_words w.before.check-sheet.ensures)
 
 pub usm-check-sheet-spec : {M : Type 1} → statement M
 usm-check-sheet-spec = tie.close (tie.spec (λ c κs. search rules) verdict-words-requires (λ c κs. search rules) returns)

@@ -1,6 +1,6 @@
 use Rattle.usm_c.proofs.Amounts.{margin_mills}
 use mathlib.Core.Path.{ap, ◌∙◌}
-use Rattle.usm_c.specs.Answers.{dueWords}
+use Rattle.usm_c.specs.Answers.{due_words}
 use borrow.Author.Rules.{rules}
 use Rattle.usm_c.proofs.usm_margin.Statement.{statement}
 use Rattle.usm_c.proofs.usm_margin.Tie as tie
@@ -11,7 +11,7 @@ due-words-requires c κs = rw c.margin.ensures (margin_mills _ _)
 returns : tie.Need-returns
 returns c =
     let w = c.before.before in
-    (c.tell.ensures.0, c.tell.ensures.1 ∙ w.due-words.ensures ∙ ap dueWords w.before.margin.ensures)
+    (c.tell.ensures.0, c.tell.ensures.1 ∙ w.due-words.ensures ∙ ap due_words w.before.margin.ensures)
 
 pub usm-margin-spec : {M : Type 1} → statement M
 usm-margin-spec = tie.close (tie.spec (λ c κs. search rules) due-words-requires (λ c κs. search rules) returns)

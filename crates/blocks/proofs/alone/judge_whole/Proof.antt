@@ -51,7 +51,7 @@ found n = n.before.before
 
 named-said : (n : tie.After-is_named)
     → (let b = block (origin (found n)) in n.is_named.result ≡ named (origin_of b).form (origin_of b).account)
-named-said n = n.is_named.ensures ∙ ap (λ (q : Origin). named q.form q.account) (origin (found n)).origin_of.ensures
+named-said n = n.is_named.ensures ∙ ap (λ (q : Origin). named q.form q.account) (origin (found n)).origin_of-origin.ensures
 
 returns : tie.Need-returns-then-not-sums_agree
 returns c =

@@ -17,7 +17,7 @@ use Rattle.fills.proofs.rows.put_record.Tie as tie
 abbrev start : tie.Else-held-k-eq0 → tie.Start
 start e = e.before.before.before.before.before.before
 
-fits : (e : tie.Else-held-k-eq0) → let a = (start e).args in 32 * (a.out + 1) ≤ length a.result.now
+fits : (e : tie.Else-held-k-eq0) → let a = (start e).args in 32 * (a.out + 1) ≤ length a.res.now
 fits e = rw (ne_eqb _ 0 e.if-held-k-eq0.false) at (start e).requires.1
 
 -- the row of the record
@@ -37,7 +37,7 @@ returns-2 c =
     let e = w.before.before.before.before in
     let a = (start e).args in
     rw (ne_eqb (get_or a.held.now a.k 0) 0 e.if-held-k-eq0.false)
-    (refl, p.put_row.ensures ∙ ap (put_at a.result.now (32 * a.out)) (ap leg_bytes (row w) ∙ sym (bytes_one _)))
+    (refl, p.put_row.ensures ∙ ap (put_at a.res.now (32 * a.out)) (ap leg_bytes (row w) ∙ sym (bytes_one _)))
 
 pub put_record_spec : {M : Type 1} → statement M
 put_record_spec =

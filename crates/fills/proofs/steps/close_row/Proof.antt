@@ -1,4 +1,4 @@
-use Prim.Native.Nat.{ℕ, suc, ◌+◌, ◌-◌, ◌≤◌, ◌<◌}
+use Prim.Native.Nat.{ℕ, suc, ◌-◌, ◌≤◌, ◌<◌}
 use mathlib.Core.Path.{◌≡◌, sym, ap, ◌∙◌}
 use native.Mathlib.Omega.{arith}
 use lib.ListN.{length, get_or, length-set}
@@ -56,16 +56,16 @@ some t =
 
 -- what is taken
 taken : (m : tie.After-number-taken)
-    → (let a = (start (search-of m.before.before)).args in
+    → (let a = (start (search-of m.before.before.before)).args in
     m.number-taken.result ≡ (leg_in_play a.holdings.now a.fills.now a.k).contracts.0)
 taken m =
-    let t = m.before.before in
+    let t = m.before.before.before in
     m.number-taken.ensures ∙ ap (λ (l : Leg). l.contracts.0) m.before.before.before.before.before.before.leg_in-leg.ensures
 
 returns : tie.Need-returns-then-taken-lot
 returns c =
     let m = c.before in
-    let t = m.before.before in
+    let t = m.before.before.before in
     let f = search-of t in
     let z = start f in
     let lot = get_or z.args.held.now (c.before.before.before.before.before.wide-at.result - 1) 0 in
@@ -75,7 +75,7 @@ returns-2 : tie.Need-returns-then-taken-lot-2
 returns-2 c =
     let t₃ = c.before in
     let m = t₃.before.before in
-    let t = m.before.before in
+    let t = m.before.before.before in
     let f = search-of t in
     let z = start f in
     take_all z.requires.0 z.requires.1.0 z.requires.1.1 _ (ended f) _ (linked t) (sym (taken m) ∙ t₃.if-taken-lot-2.true)
@@ -83,7 +83,7 @@ returns-2 c =
 returns-3 : tie.Need-returns-else-taken-lot-2
 returns-3 c =
     let m = c.before.before in
-    let t = m.before.before in
+    let t = m.before.before.before in
     let f = search-of t in
     let z = start f in
     take_past z.requires.0 z.requires.1.0 z.requires.1.1 _ (ended f) _ (linked t) (omega (arith, taken m, c.before.if-taken-lot.false, c.if-taken-lot-2.false))
@@ -109,19 +109,19 @@ close_row_spec =
     (λ c. omega (arith, (row c.before).0, (row c.before).1))
     (λ c κs. search rules)
     (λ c. omega arith)
-    (λ c. omega (arith, (row c.before.before.before).0, (row c.before.before.before).1))
-    (λ c. omega (arith, (row c.before.before.before).0, (row c.before.before.before).1))
+    (λ c. omega (arith, (row c.before.before.before.before).0, (row c.before.before.before.before).1))
+    (λ c. omega (arith, (row c.before.before.before.before).0, (row c.before.before.before.before).1))
     (λ c. simp length-set)
     (λ c. search rules)
     returns
-    (λ c. omega (arith, (row c.before.before.before.before).0, (row c.before.before.before.before).1))
-    (λ c. omega (arith, (row c.before.before.before.before).0, (row c.before.before.before.before).1))
-    (λ c. omega (arith, (row c.before.before.before.before).0))
-    (λ c. omega (arith, (row c.before.before.before.before).0))
-    (λ c. omega (arith, (row c.before.before.before.before.before).0, (small (search-of c.before.before.before.before.before)).1))
-    (λ c. omega (arith, (small (search-of c.before.before.before.before.before)).0, (small (search-of c.before.before.before.before.before)).1))
-    (λ c. omega (arith, (small (search-of c.before.before.before.before.before)).0, (small (search-of c.before.before.before.before.before)).1))
-    (λ c. omega (arith, some c.before.before.before.before.before))
+    (λ c. omega (arith, (row c.before.before.before.before.before).0, (row c.before.before.before.before.before).1))
+    (λ c. omega (arith, (row c.before.before.before.before.before).0, (row c.before.before.before.before.before).1))
+    (λ c. omega (arith, (row c.before.before.before.before.before).0))
+    (λ c. omega (arith, (row c.before.before.before.before.before).0))
+    (λ c. omega (arith, (row c.before.before.before.before.before.before).0, (small (search-of c.before.before.before.before.before.before)).1))
+    (λ c. omega (arith, (small (search-of c.before.before.before.before.before.before)).0, (small (search-of c.before.before.before.before.before.before)).1))
+    (λ c. omega (arith, (small (search-of c.before.before.before.before.before.before)).0, (small (search-of c.before.before.before.before.before.before)).1))
+    (λ c. omega (arith, some c.before.before.before.before.before.before))
     (λ c. simp length-set)
     (λ c. simp length-set)
     returns-2

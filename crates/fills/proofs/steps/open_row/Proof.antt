@@ -1,4 +1,4 @@
-use Prim.Native.Nat.{ℕ, suc, ◌+◌, ◌-◌, ◌≤◌, ◌<◌}
+use Prim.Native.Nat.{suc, ◌+◌, ◌-◌, ◌≤◌, ◌<◌}
 use mathlib.Core.Path.{◌≡◌, sym, ap, ◌∙◌}
 use native.Mathlib.Numerals.{add-one}
 use native.Mathlib.Omega.{arith}
@@ -58,7 +58,7 @@ returns c =
     let m = c.before in
     let p = m.before in
     let o = p.before in
-    let t = o.before.before in
+    let t = o.before.before.before in
     let f = search-of t in
     let l = t.before.before.before in
     let z = start f in
@@ -70,7 +70,7 @@ returns c =
 
 returns-2 : tie.Need-returns-then-n-lt-MOST_LEGS
 returns-2 c =
-    let t₃ = c.before in
+    let t₃ = c.before.before in
     let e = t₃.before in
     let w = e.before in
     let l = w.before.before in
@@ -85,7 +85,7 @@ returns-3 c =
     let m = c.before in
     let p = m.before in
     let o = p.before in
-    let t = o.before.before in
+    let t = o.before.before.before in
     let f = search-of t in
     let l = t.before.before.before in
     let z = start f in
@@ -120,18 +120,18 @@ open_row_spec =
     (λ c κs. search rules)
     (λ c κs. search rules)
     (λ c κs. search rules)
-    (λ c. omega (arith, (row c.before.before.before.before.before).0, (row c.before.before.before.before.before).1))
-    (λ c. omega (arith, (row c.before.before.before.before.before).0, (row c.before.before.before.before.before).1))
+    (λ c. omega (arith, (row c.before.before.before.before.before.before).0, (row c.before.before.before.before.before.before).1))
+    (λ c. omega (arith, (row c.before.before.before.before.before.before).0, (row c.before.before.before.before.before.before).1))
     (λ c. simp length-set)
     (λ c. search rules)
     returns
     (λ c κs. search rules)
-    (λ c. omega (arith, (fresh c.before.before.before.before.before.before).0))
-    (λ c. omega (arith, (fresh c.before.before.before.before.before.before).0, (fresh c.before.before.before.before.before.before).1))
-    (λ c. omega (arith, (fresh c.before.before.before.before.before.before).0))
-    (λ c. omega (arith, (fresh c.before.before.before.before.before.before).0))
-    (λ c. omega (arith, (small c.before.before.before.before.before.before).0, (small c.before.before.before.before.before.before).1))
-    (λ c. omega (arith, (small c.before.before.before.before.before.before).0, (small c.before.before.before.before.before.before).1))
+    (λ c. omega (arith, (fresh c.before.before.before.before.before.before.before).0))
+    (λ c. omega (arith, (fresh c.before.before.before.before.before.before.before).0, (fresh c.before.before.before.before.before.before.before).1))
+    (λ c. omega (arith, (fresh c.before.before.before.before.before.before.before).0))
+    (λ c. omega (arith, (fresh c.before.before.before.before.before.before.before).0))
+    (λ c. omega (arith, (small c.before.before.before.before.before.before.before).0, (small c.before.before.before.before.before.before.before).1))
+    (λ c. omega (arith, (small c.before.before.before.before.before.before.before).0, (small c.before.before.before.before.before.before.before).1))
     (λ c. omega arith)
     (λ c. simp length-set)
     (λ c. simp length-set)

@@ -19,42 +19,42 @@ use Rattle.salvage.proofs.calls.put_saved.Tie as tie
 abbrev t : tie.Start → Tables
 t z = tables z.args.holdings.now z.args.placement.now z.args.claims.now
 
-abbrev start : tie.After-slice-known3 → tie.Start
+abbrev start : tie.After-slice_known-3-1 → tie.Start
 start c = c.before.before.before.before.before.before.before.before
 
-abbrev begun : tie.After-file-bytes → tie.Start
+abbrev begun : tie.After-file_bytes-need → tie.Start
 begun b = start b.before
 
 -- the bytes that the file needs
-need : (b : tie.After-file-bytes) → (let z = begun b in b.file_bytes.result ≡ length (file_of z.args.lead (t z)))
-need b = let z = begun b in b.file_bytes.ensures ∙ file_bytes_lem z.args.lead (t z) z.pre.0
+need : (b : tie.After-file_bytes-need) → (let z = begun b in b.file_bytes-need.result ≡ length (file_of z.args.lead (t z)))
+need b = let z = begun b in b.file_bytes-need.ensures ∙ file_bytes_lem z.args.lead (t z) z.requires.0
 
-abbrev counted : tie.After-room-fault → tie.After-file-bytes
+abbrev counted : tie.After-room_fault → tie.After-file_bytes-need
 counted f = f.before
 
-fault-is : (f : tie.After-room-fault)
+fault-is : (f : tie.After-room_fault)
     → (let z = begun (counted f) in
-    f.room-fault.result
+    f.room_fault.result
     ≡ first_of (salvage_room (length (file_of z.args.lead (t z))) (length z.args.dropped.now) (length z.args.out.now) (length z.args.indices.now) (length z.args.numbers.now)))
-fault-is f = rw (need (counted f)) at f.room-fault.ensures
+fault-is f = rw (need (counted f)) at f.room_fault.ensures
 
-abbrev found : tie.After-enum-told → tie.After-room-fault
-found e = e.before.before
+abbrev found : tie.In-Nothing → tie.After-room_fault
+found e = e.before
 
-none : (e : tie.After-enum-told)
+none : (e : tie.In-Nothing)
     → (let z = begun (counted (found e)) in
     first_of (salvage_room (length (file_of z.args.lead (t z))) (length z.args.dropped.now) (length z.args.out.now) (length z.args.indices.now) (length z.args.numbers.now)) ≡ Nothing)
-none e = sym (fault-is (found e)) ∙ e.enum_told.given.1
+none e = sym (fault-is (found e)) ∙ e.in-Nothing.is
 
-copy-indices-requires : tie.Need-copy-indices-requires
+copy-indices-requires : tie.Need-copy_indices-requires
 copy-indices-requires c κs = (room_pass _ _ _ _ _ (none c.before.before.before.before.before)).1
 
-returns : tie.Need-returns
+returns : tie.Need-returns-in-Is
 returns c =
-    let f = c.before.before.before in
-    (rw (sym (fault-is f) ∙ c.before.refusal.given.1), (refl, (refl, refl)))
+    let f = c.before in
+    (rw (sym (fault-is f) ∙ c.in-Is.is), (refl, (refl, refl)))
 
-returns-2 : tie.Need-returns-2
+returns-2 : tie.Need-returns-in-Nothing
 returns-2 c =
     let y = c.before.before in
     let x = y.before.before.before.before in
@@ -65,14 +65,14 @@ returns-2 c =
     let o = z.args.lead in
     let out = z.args.out.now in
     let numbers = z.args.numbers.now in
-    let room : 0 + length z.args.reasons.now ≤ length numbers = omega (arith, (room_pass _ _ _ _ _ (none e)).2, z.pre.1) in
-    let done = write_done o (t z) (length out) z.pre.0 (omega (arith, (room_pass _ _ _ _ _ (none e)).0, length_file o (t z))) in (
+    let room : 0 + length z.args.reasons.now ≤ length numbers = omega (arith, (room_pass _ _ _ _ _ (none e)).2, z.requires.1) in
+    let done = write_done o (t z) (length out) z.requires.0 (omega (arith, (room_pass _ _ _ _ _ (none e)).0, length_file o (t z))) in (
       rw (none e, need b),
-      (w.write-file.ensures.1 ∙ ap (λ (r : Writing). left_after (has_written r) (file_of o (t z)) out) (w.write-file.ensures.0 ∙ done), (x.copy-indices.ensures, y.copy-to.ensures ∙ put_room numbers 0 z.args.reasons.now room)),
+      (w.write_file.ensures.1 ∙ ap (λ (r : Writing). left_after (has_written r) (file_of o (t z)) out) (w.write_file.ensures.0 ∙ done), (x.copy_indices.ensures, y.copy_to.ensures ∙ put_room numbers 0 z.args.reasons.now room)),
     )
 
-pub put-saved-spec : {M : Type 1} → statement M
-put-saved-spec =
+pub put_saved_spec : {M : Type 1} → statement M
+put_saved_spec =
     tie.close
     (tie.spec
     (λ c κs. search rules)

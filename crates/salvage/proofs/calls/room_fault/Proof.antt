@@ -7,20 +7,20 @@ use Rattle.salvage.specs.Calls.{salvage_room}
 use Rattle.salvage.proofs.calls.room_fault.Statement.{statement}
 use Rattle.salvage.proofs.calls.room_fault.Tie as tie
 
-returns : tie.Need-returns
+returns : tie.Need-returns-then-out-bytes
 unfolding salvage_room first_of
-returns c = rw (lt-leb _ _ c.if1.true)
+returns c = rw (lt-leb _ _ c.if-out-bytes.true)
 
-returns-2 : tie.Need-returns-2
+returns-2 : tie.Need-returns-then-entries-indices
 unfolding salvage_room first_of
 returns-2 c =
     let a = c.before.before.args in
-    let both : (leb a.entries a.indices && leb a.entries a.numbers) ≡ true = c.if2.true in
-    rw (le-leb _ _ c.before.if1.false, both)
+    let both : (leb a.entries a.indices && leb a.entries a.numbers) ≡ true = c.if-entries-indices.true in
+    rw (le-leb _ _ c.before.if-out-bytes.false, both)
 
-returns-3 : tie.Need-returns-3
+returns-3 : tie.Need-returns
 unfolding salvage_room first_of
-returns-3 c = rw (le-leb _ _ c.before.if1.false, c.if2.false)
+returns-3 c = rw (le-leb _ _ c.before.if-out-bytes.false, c.if-entries-indices.false)
 
-pub room-fault-spec : {M : Type 1} → statement M
-room-fault-spec = tie.close (tie.spec returns returns-2 returns-3)
+pub room_fault_spec : {M : Type 1} → statement M
+room_fault_spec = tie.close (tie.spec returns returns-2 returns-3)

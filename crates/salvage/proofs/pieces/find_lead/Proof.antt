@@ -12,54 +12,54 @@ use Rattle.salvage.proofs.pieces.find_lead.Statement.{statement}
 use Rattle.salvage.proofs.pieces.find_lead.Tie as tie
 
 -- no piece before piece i is sound
-abbrev invariant-loop : tie.invariant-loop
+abbrev invariant-loop : tie.invariant-loop-i
 invariant-loop bytes n i₀ i = (n ≡ piece_count (length bytes)) × (i ≤ n) × (lead_of (pieces_of bytes) ≡ lead_of (pieces_from bytes i))
 
-abbrev decreases-loop : tie.decreases-loop
+abbrev decreases-loop : tie.decreases-loop-i
 decreases-loop bytes n i₀ i = n - i
 
-abbrev bytes : tie.In-loop invariant-loop decreases-loop → List ℕ
+abbrev bytes : tie.In-loop-i invariant-loop decreases-loop → List ℕ
 bytes t = t.before.before.before.before.args.bytes.now
 
-loop-holds : tie.Need-loop-init invariant-loop decreases-loop
-loop-holds c = (c.piece-count.ensures, omega arith, rw (pieces_all c.before.before.args.bytes.now))
+loop-holds : tie.Need-loop-i-init invariant-loop decreases-loop
+loop-holds c = (c.piece_count-n.ensures, omega arith, rw (pieces_all c.before.before.args.bytes.now))
 
-judge-piece-requires : tie.Need-judge-piece-requires invariant-loop decreases-loop
+judge-piece-requires : tie.Need-judge_piece-judged-requires invariant-loop decreases-loop
 judge-piece-requires c κs = (c.before.before.before.before.requires, omega arith)
 
-returns : tie.Need-returns invariant-loop decreases-loop
+returns : tie.Need-returns-in-Sound invariant-loop decreases-loop
 returns c =
-    let j = c.before in
-    let m = j.before.before in
+    let j = c in
+    let m = j.before in
     let t = m.before in
-    let l = t.before.loop in
+    let l = t.before.loop-i in
     let x = bytes t in
     sym
     (l.invariant.2
     ∙ lead_found (chunk_at 512 x l.i) (pieces_from x l.i) (pieces_from x (l.i + 1)) (pieces_step x l.i (omega arith)) _
-    (sym m.judge-piece.ensures ∙ j.judged.given.1))
+    (sym m.judge_piece-judged.ensures ∙ j.in-Sound.is))
 
-loop-again : tie.Need-loop-preserved invariant-loop decreases-loop
+loop-again : tie.Need-loop-i-preserved invariant-loop decreases-loop
 loop-again c =
-    let m = c.before.before in
+    let m = c.before in
     let t = m.before in
-    let l = t.before.loop in
+    let l = t.before.loop-i in
     let x = bytes t in (
       l.invariant.0,
       omega arith,
       l.invariant.2
           ∙ lead_next (chunk_at 512 x l.i) (pieces_from x l.i) (pieces_from x (l.i + 1)) (pieces_step x l.i (omega arith)) _
-          (sym m.judge-piece.ensures ∙ c.enum_told.given.1),
+          (sym m.judge_piece-judged.ensures ∙ c.in_default.is),
     )
 
-returns-2 : tie.Need-returns-2 invariant-loop decreases-loop
+returns-2 : tie.Need-returns invariant-loop decreases-loop
 returns-2 c =
-    let l = c.before.loop in
+    let l = c.before.loop-i in
     let x = c.before.before.before.before.args.bytes.now in
     sym (l.invariant.2 ∙ lead_none (pieces_from x l.i) (pieces_none x l.i (omega arith)))
 
-pub find-lead-spec : {M : Type 1} → statement M
-find-lead-spec =
+pub find_lead_spec : {M : Type 1} → statement M
+find_lead_spec =
     tie.close
     (tie.spec
     invariant-loop

@@ -8,10 +8,10 @@ returns : tie.Need-returns
 returns c =
     let p = c.before.before in
     let a = p.before.before.args in
-    rw (piece_is a.bytes.now a.i p.piece-end.result p.piece-end.ensures) at c.judge-block.ensures
+    rw (piece_is a.bytes.now a.i p.piece_end-end.result p.piece_end-end.ensures) at c.judge_block.ensures
 
-pub judge-piece-spec : {M : Type 1} → statement M
-judge-piece-spec =
+pub judge_piece_spec : {M : Type 1} → statement M
+judge_piece_spec =
     tie.close
     (tie.spec
     (λ c. omega arith)

@@ -6,10 +6,10 @@ use Rattle.sheets.proofs.links.digits_of.Tie as tie
 
 returns : tie.Need-returns
 unfolding digits_of
-returns c = rw c.before.before.before.before.sorts-of.ensures.0 refl
+returns c = rw c.before.before.before.before.sorts_of-sorts.ensures.0 refl
 
-pub digits-of-spec : {M : Type 1} → statement M
-digits-of-spec =
+pub digits_of_spec : {M : Type 1} → statement M
+digits_of_spec =
     tie.close
     (tie.spec
     (λ c κs. search rules)

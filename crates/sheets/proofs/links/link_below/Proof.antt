@@ -9,5 +9,5 @@ returns : tie.Need-returns
 unfolding link_below
 returns c = (refl, omega arith, omega arith)
 
-pub link-below-spec : {M : Type 1} → statement M
-link-below-spec = tie.close (tie.spec (λ c. search rules) (λ c. search rules) (λ c. search rules) returns)
+pub link_below_spec : {M : Type 1} → statement M
+link_below_spec = tie.close (tie.spec (λ c. search rules) (λ c. search rules) (λ c. search rules) returns)

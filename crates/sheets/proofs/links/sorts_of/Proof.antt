@@ -7,8 +7,8 @@ use Rattle.sheets.proofs.links.sorts_of.Tie as tie
 returns : tie.Need-returns
 returns c = (refl, omega arith)
 
-pub sorts-of-spec : {M : Type 1} → statement M
-sorts-of-spec =
+pub sorts_of_spec : {M : Type 1} → statement M
+sorts_of_spec =
     tie.close
     (tie.spec
     (λ c. search rules)

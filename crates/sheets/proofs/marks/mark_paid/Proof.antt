@@ -11,27 +11,27 @@ use Rattle.sheets.proofs.MarkedLegs.{put_marked}
 use Rattle.sheets.proofs.marks.mark_paid.Statement.{statement}
 use Rattle.sheets.proofs.marks.mark_paid.Tie as tie
 
-clear : (t : tie.After-enum-told) → first_of (table_checks Placement t.before.before.before.before.before.args.placement.now) ≡ Nothing
-clear t = counted_clear _ _ (sym t.before.before.check-table.ensures ∙ t.enum_told.given.1)
+clear : (t : tie.In-Records) → first_of (table_checks Placement t.before.before.before.args.placement.now) ≡ Nothing
+clear t = counted_clear _ _ (sym t.before.check_table.ensures ∙ t.in-Records.is)
 
-mark-records-requires : tie.Need-mark-records-requires
+mark-records-requires : tie.Need-mark_records-requires
 mark-records-requires c κs = table_few _ (clear c.before)
 
-returns : tie.Need-returns
+returns : tie.Need-returns-in-Refused
 unfolding pass_call
 returns c =
-    let k = c.before.before.before in
-    (rw (counted_refused _ _ (sym k.check-table.ensures ∙ c.before.refusal.given.1)), refl)
+    let k = c.before in
+    (rw (counted_refused _ _ (sym k.check_table.ensures ∙ c.in-Refused.is)), refl)
 
-returns-2 : tie.Need-returns-2
+returns-2 : tie.Need-returns-in-Records
 unfolding pass_call
 returns-2 c =
     let m = c.before.before in
-    let p = m.before.before.before.before.before.before.before.args.placement.now in
-    (rw (clear m.before.before) (ap Marks m.mark-records.ensures.0), m.mark-records.ensures.1 ∙ sym (put_marked p))
+    let p = c.before.before.before.before.before.before.before.args.placement.now in
+    (rw (clear m.before.before) (ap Marks m.mark_records.ensures.0), m.mark_records.ensures.1 ∙ sym (put_marked p))
 
-pub mark-paid-spec : {M : Type 1} → statement M
-mark-paid-spec =
+pub mark_paid_spec : {M : Type 1} → statement M
+mark_paid_spec =
     tie.close
     (tie.spec
     (λ c κs. search rules)

@@ -1,6 +1,5 @@
 use Prim.Native.Nat.{suc, ◌-◌, ◌+◌, ◌*◌, ◌≤◌, ◌<◌}
 use mathlib.Core.Path.{◌≡◌, refl, sym, ap, ◌∙◌}
-use mathlib.Core.Logic.{⊎_elim}
 use native.Mathlib.Numerals.{add-one}
 use native.Mathlib.Omega.{arith}
 use lib.ListN.{length, get_or, length-set}
@@ -9,137 +8,138 @@ use Rattle.sheets.specs.Steps.Pooled.{pooled_leg, pooled_records}
 use Rattle.sheets.specs.Steps.Links.{bucket_of, digits_of, Ends, Packed, AllWorded}
 use Rattle.sheets.proofs.LinkLaws.{Linked, linked_none, link_small, linked_old, linked_new}
 use Rattle.sheets.proofs.WordLaws.{leg_packed, worded_new}
+use Rattle.sheets.proofs.numbers.link_lines.Lts.{then-found-eq0, else-found-eq0}
 use Rattle.sheets.proofs.numbers.link_lines.Statement.{statement}
 use Rattle.sheets.proofs.numbers.link_lines.Tie as tie
 
 -- the first k records are numbered and can be found, and the words of those that are linked stand at their indices
-abbrev invariant-loop : tie.invariant-loop
+abbrev invariant-loop : tie.invariant-loop-k
 invariant-loop holdings placement numbers₀ links₀ lows₀ highs₀ n k₀ numbers links lows highs k =
     (n ≡ pooled_records holdings placement) × (k ≤ n) × (length numbers ≡ length numbers₀) × (length links ≡ length links₀)
     × (length lows ≡ length lows₀) × (length highs ≡ length highs₀)
     × Linked (pooled_leg holdings placement) k numbers links × AllWorded (pooled_leg holdings placement) lows highs links
 
-abbrev decreases-loop : tie.decreases-loop
+abbrev decreases-loop : tie.decreases-loop-k
 decreases-loop holdings placement numbers₀ links₀ lows₀ highs₀ n k₀ numbers links lows highs k = n - k
 
-loop-holds : tie.Need-loop-init invariant-loop decreases-loop
+loop-holds : tie.Need-loop-k-init invariant-loop decreases-loop
 loop-holds c =
     let s = c.before.before.before.before.before.before in
     let none = s.requires.1.1.1 in
     (refl, omega arith, refl, refl, refl, refl, linked_none _ _ _ none, λ l j e. absurd (omega (arith, none l)))
 
-packed : (t : tie.After-pooled-leg invariant-loop decreases-loop) → Packed t.pooled-leg.result
+packed : (t : tie.After-pooled_leg-leg invariant-loop decreases-loop) → Packed t.pooled_leg-leg.result
 packed t =
     let l = t.before.before in
     let s = l.before.before.before.before.before.before.before in
-    rw t.pooled-leg.ensures (leg_packed _ _ s.requires.0 l.loop.k (omega arith))
+    rw t.pooled_leg-leg.ensures (leg_packed _ _ s.requires.0 l.loop-k.k (omega arith))
 
 -- where the search for record k ends
-ends : (c : tie.After-link-of invariant-loop decreases-loop)
-    → (let t = c.before.before.before.before.before.before in
+ends : (c : tie.After-link_of-link invariant-loop decreases-loop)
+    → (let t = c.before.before.before in
     let l = t.before.before in
-    let a = l.before.before.before.before.before.before.before.args in
-    let leg = t.pooled-leg.result in
-    Ends (pooled_leg a.holdings.now a.placement.now) l.loop.links leg (digits_of leg) (bucket_of leg) c.link-of.result)
+    let a = c.before.before.before.before.before.before.before.before.before.before.before.before.args in
+    let leg = c.before.before.before.pooled_leg-leg.result in
+    Ends (pooled_leg a.holdings.now a.placement.now) c.before.before.before.before.before.loop-k.links leg (digits_of leg) (bucket_of leg) c.link_of-link.result)
 ends c =
-    let b = c.before.before.before.before in
+    let b = c.before in
     let d = b.before in
     let t = d.before in
     let l = t.before.before in
-    c.link-of.ensures _ l.loop.invariant.7 t.pooled-leg.result (packed t) d.digits_of.ensures b.bucket-of.ensures.0
+    c.link_of-link.ensures _ c.before.before.before.before.before.loop-k.invariant.7 c.before.before.before.pooled_leg-leg.result (packed t) c.before.before.digits_of-digits.ensures c.before.bucket_of-bucket.ensures.0
 
-small : (c : tie.After-link-of invariant-loop decreases-loop)
-    → (let l = c.before.before.before.before.before.before.before.before in
-    c.link-of.result < 509 + 8 * l.loop.k)
+small : (c : tie.After-link_of-link invariant-loop decreases-loop)
+    → (let l = c.before.before.before.before.before in
+    c.link_of-link.result < 509 + 8 * c.before.before.before.before.before.loop-k.k)
 small c =
-    let t = c.before.before.before.before.before.before in
+    let t = c.before.before.before in
     let l = t.before.before in
     let s = l.before.before.before.before.before.before.before in
-    link_small _ _ _ _ l.loop.invariant.6 (omega arith) _ t.pooled-leg.ensures _ (ends c)
+    link_small _ _ _ _ c.before.before.before.before.before.loop-k.invariant.6 (omega arith) _ c.before.before.before.pooled_leg-leg.ensures _ (ends c)
 
-link-of-requires : tie.Need-link-of-requires invariant-loop decreases-loop
+link-of-requires : tie.Need-link_of-link-requires invariant-loop decreases-loop
 link-of-requires c κs =
-    let b = c.before.before.before in
+    let b = c in
     let l = b.before.before.before.before in
     let s = l.before.before.before.before.before.before.before in
-    (b.bucket-of.ensures.1, ((omega arith, omega arith, omega arith), λ i j e. (let r = l.loop.invariant.6.rising i j e in (omega (arith, r.0), r.1))))
+    (c.bucket_of-bucket.ensures.1, ((omega arith, omega arith, omega arith), λ i j e. (let r = c.before.before.before.before.loop-k.invariant.6.rising i j e in (omega (arith, r.0), r.1))))
 
 -- there is room for record k in every list
-room : (f : tie.After-link-of invariant-loop decreases-loop)
-    → (let l = f.before.before.before.before.before.before.before.before in
-    (l.loop.k < 512) × (l.loop.k < length l.loop.numbers) × (l.loop.k < length l.loop.lows) × (l.loop.k < length l.loop.highs)
-    × (f.link-of.result < length l.loop.links))
+room : (f : tie.After-link_of-link invariant-loop decreases-loop)
+    → (let l = f.before.before.before.before.before in
+    (f.before.before.before.before.before.loop-k.k < 512) × (f.before.before.before.before.before.loop-k.k < length f.before.before.before.before.before.loop-k.numbers) × (f.before.before.before.before.before.loop-k.k < length f.before.before.before.before.before.loop-k.lows) × (f.before.before.before.before.before.loop-k.k < length f.before.before.before.before.before.loop-k.highs)
+    × (f.link_of-link.result < length f.before.before.before.before.before.loop-k.links))
 room f =
-    let l = f.before.before.before.before.before.before.before.before in
+    let l = f.before.before.before.before.before in
     let s = l.before.before.before.before.before.before.before in
     (omega arith, omega arith, omega arith, omega arith, omega (arith, small f))
 
 -- the record that the search finds stands before record k
-found : (c : tie.Else1 invariant-loop decreases-loop)
+found : (c : tie.Else-found-eq0 invariant-loop decreases-loop)
     → (let w = c.before in
     let f = w.before.before in
-    let l = f.before.before.before.before.before.before.before.before in
-    (get_or l.loop.links f.link-of.result 0 ≡ suc (w.wide.result - 1)) × (w.wide.result - 1 < l.loop.k))
+    let l = f.before.before.before.before.before in
+    (get_or c.before.before.before.before.before.before.before.before.loop-k.links f.link_of-link.result 0 ≡ suc (w.wide-found.result - 1)) × (w.wide-found.result - 1 < c.before.before.before.before.before.before.before.before.loop-k.k))
 found c =
     let w = c.before in
-    let l = w.before.before.before.before.before.before.before.before.before.before in
-    let h = c.if1.false in
-    let e : w.wide.result ≡ suc (w.wide.result - 1) = omega arith in
-    let g = sym w.wide.ensures ∙ e in
-    (g, (l.loop.invariant.6.rising _ _ g).0)
+    let l = w.before.before.before.before.before.before.before in
+    let h = c.if-found-eq0.false in
+    let e : w.wide-found.result ≡ suc (w.wide-found.result - 1) = omega arith in
+    let g = sym w.wide-found.ensures ∙ e in
+    (g, (c.before.before.before.before.before.before.before.before.loop-k.invariant.6.rising _ _ g).0)
 
-after : (c : tie.Joined1 invariant-loop decreases-loop)
-    → (let l = c.before.before.before.before.before.before.before.before.before.before.before in
-    let a = l.before.before.before.before.before.before.before.args in
+after : (c : tie.Joined-found-eq0 invariant-loop decreases-loop)
+    → (let l = c.before.before.before.before.before.before.before.before in
+    let a = c.before.before.before.before.before.before.before.before.before.before.before.before.before.before.before.args in
     let leg = pooled_leg a.holdings.now a.placement.now in
-    (length c.if1.numbers ≡ length a.numbers.now) × (length c.if1.links ≡ length a.links.now)
-    × (length c.if1.lows ≡ length a.lows.now) × (length c.if1.highs ≡ length a.highs.now)
-    × Linked leg (l.loop.k + 1) c.if1.numbers c.if1.links × AllWorded leg c.if1.lows c.if1.highs c.if1.links)
+    (length c.if-found-eq0.numbers ≡ length a.numbers.now) × (length c.if-found-eq0.links ≡ length a.links.now)
+    × (length c.if-found-eq0.lows ≡ length a.lows.now) × (length c.if-found-eq0.highs ≡ length a.highs.now)
+    × Linked leg (c.before.before.before.before.before.before.before.before.loop-k.k + 1) c.if-found-eq0.numbers c.if-found-eq0.links × AllWorded leg c.if-found-eq0.lows c.if-found-eq0.highs c.if-found-eq0.links)
 after c =
     let w = c.before in
     let f = w.before.before in
-    let d = f.before.before.before.before.before in
+    let d = f.before.before in
     let t = d.before in
     let l = t.before.before in
     let s = l.before.before.before.before.before.before.before in
-    let inv = l.loop.invariant in
-    ⊎_elim
-    (λ v.
-    let free = (room f).4 in
-    let e = t.pooled-leg.ensures in (
-      ap length v.1 ∙ simp length-set inv.2,
-      ap length v.2 ∙ simp length-set inv.3,
-      ap length v.3 ∙ simp length-set inv.4,
-      ap length v.4 ∙ simp length-set inv.5,
-      rw (v.1, v.2)
-          (linked_new _ _ _ _ inv.6 (omega arith) _ e _ (ends f) _ _ free (sym w.wide.ensures ∙ v.0.taken) refl (add-one _)),
-      rw (v.2, v.3, v.4, add-one)
-          (worded_new (pooled_leg s.args.holdings.now s.args.placement.now) l.loop.lows l.loop.highs l.loop.links inv.7 l.loop.k f.link-of.result _ _ inv.6.rising free (room f).2 (room f).3 (rw (sym e) (packed t))
-          (rw (d.digits_of.ensures, e) refl) (rw (d.digits_of.ensures, e) refl)),
-    ))
-    (λ v. (
-      ap length v.2 ∙ simp length-set inv.2,
-      ap length v.3 ∙ inv.3,
-      ap length v.4 ∙ inv.4,
-      ap length v.5 ∙ inv.5,
-      rw (v.2, v.3)
-          (linked_old _ _ _ _ inv.6 (omega arith) _ t.pooled-leg.ensures _ (ends f) _ _ (found (record { before = w; if1 = v.0 })).0 refl),
-      rw (v.3, v.4, v.5) inv.7,
-    ))
-    c.if1.branch
+    let inv = c.before.before.before.before.before.before.before.before.loop-k.invariant in
+    elim c.if-found-eq0.branch [
+      | then-found-eq0 v ↦ (
+          let free = (room f).4 in
+          let e = t.pooled_leg-leg.ensures in (
+            ap length v.numbers-is ∙ simp length-set inv.2,
+            ap length v.links-is ∙ simp length-set inv.3,
+            ap length v.lows-is ∙ simp length-set inv.4,
+            ap length v.highs-is ∙ simp length-set inv.5,
+            rw (v.numbers-is, v.links-is)
+                (linked_new _ _ _ _ inv.6 (omega arith) _ e _ (ends f) _ _ free (sym w.wide-found.ensures ∙ v.if-found-eq0.true) refl (add-one _)),
+            rw (v.links-is, v.lows-is, v.highs-is, add-one)
+                (worded_new (pooled_leg s.args.holdings.now s.args.placement.now) l.loop-k.lows l.loop-k.highs l.loop-k.links inv.7 l.loop-k.k f.link_of-link.result _ _ inv.6.rising free (room f).2 (room f).3 (rw (sym e) (packed t))
+                (rw (d.digits_of-digits.ensures, e) refl) (rw (d.digits_of-digits.ensures, e) refl)),
+          ))
+      | else-found-eq0 v ↦ (
+        ap length v.numbers-is ∙ simp length-set inv.2,
+        ap length v.links-is ∙ inv.3,
+        ap length v.lows-is ∙ inv.4,
+        ap length v.highs-is ∙ inv.5,
+        rw (v.numbers-is, v.links-is)
+            (linked_old _ _ _ _ inv.6 (omega arith) _ t.pooled_leg-leg.ensures _ (ends f) _ _ (found (record { before = w; if-found-eq0 = v.if-found-eq0 })).0 refl),
+        rw (v.links-is, v.lows-is, v.highs-is) inv.7,
+      )
+    ]
 
-loop-again : tie.Need-loop-preserved invariant-loop decreases-loop
+loop-again : tie.Need-loop-k-preserved invariant-loop decreases-loop
 loop-again c = let a = after c in (refl, omega arith, a.0, a.1, a.2, a.3, a.4, a.5)
 
 returns : tie.Need-returns invariant-loop decreases-loop
 returns c =
     let l = c.before in
     let a = l.before.before.before.before.before.before.before.args in
-    let e : l.loop.k ≡ pooled_records a.holdings.now a.placement.now = omega arith in
-    (rw e at l.loop.invariant.6.numbered, l.loop.invariant.2)
+    let e : l.loop-k.k ≡ pooled_records a.holdings.now a.placement.now = omega arith in
+    (rw e at l.loop-k.invariant.6.numbered, l.loop-k.invariant.2)
 
-pub link-lines-spec : {M : Type 1} → statement M
-link-lines-spec =
+pub link_lines_spec : {M : Type 1} → statement M
+link_lines_spec =
     tie.close
     (tie.spec
     invariant-loop

@@ -9,30 +9,30 @@ use Rattle.sheets.specs.Steps.Stages.{called_checks}
 use Rattle.sheets.proofs.sheet.first_refusal.Statement.{statement}
 use Rattle.sheets.proofs.sheet.first_refusal.Tie as tie
 
-returns : tie.Need-returns
+returns : tie.Need-returns-then-refusal-eq4
 unfolding called_checks first_of
 returns c =
-    let four : eqb c.before.before.before.before.args.refusal.number 4 ≡ true = eq-eqb _ _ c.if1.true in
+    let four : eqb c.before.before.before.before.args.refusal.number 4 ≡ true = eq-eqb _ _ c.if-refusal-eq4.true in
     rw four refl
 
 -- another number
-other : (c : tie.Else1) → eqb c.before.before.before.before.args.refusal.number 4 ≡ false
-other c = ne_eqb _ _ c.if1.false
+other : (c : tie.Else-refusal-eq4) → eqb c.before.before.before.before.args.refusal.number 4 ≡ false
+other c = ne_eqb _ _ c.if-refusal-eq4.false
 
-returns-2 : tie.Need-returns-2
+returns-2 : tie.Need-returns-in-Is
 unfolding called_checks first_of
 returns-2 c =
-    let f = c.before.before.before in
-    rw (other f.before, first_append, sym f.claimed-fault.ensures ∙ c.before.earlier.given.1) refl
+    let f = c.before in
+    rw (other f.before, first_append, sym f.claimed_fault.ensures ∙ c.in-Is.is) refl
 
-returns-3 : tie.Need-returns-3
+returns-3 : tie.Need-returns-in-Nothing
 unfolding called_checks first_of
 returns-3 c =
-    let f = c.before.before in
-    rw (other f.before, first_append, sym f.claimed-fault.ensures ∙ c.enum_told.given.1) refl
+    let f = c.before in
+    rw (other f.before, first_append, sym f.claimed_fault.ensures ∙ c.in-Nothing.is) refl
 
-pub first-refusal-spec : {M : Type 1} → statement M
-first-refusal-spec =
+pub first_refusal_spec : {M : Type 1} → statement M
+first_refusal_spec =
     tie.close
     (tie.spec
     returns

@@ -4,18 +4,18 @@ use borrow.Author.Rules.{rules}
 use Rattle.sheets.proofs.sheet.judge_sheet.Statement.{statement}
 use Rattle.sheets.proofs.sheet.judge_sheet.Tie as tie
 
-judge-placed-requires : tie.Need-judge-placed-requires
-judge-placed-requires c κs = sym c.before.before.opening-fault.ensures ∙ c.enum_told.given.1
+judge-placed-requires : tie.Need-judge_placed-requires
+judge-placed-requires c κs = sym c.before.opening_fault.ensures ∙ c.in-Nothing.is
 
-returns : tie.Need-returns
+returns : tie.Need-returns-in-Is
 returns c =
-    let r = c.before.before in (
-      c.refused.ensures ∙ opening_stop _ _ _ _ (sym r.before.before.opening-fault.ensures ∙ r.refusal.given.1),
+    let r = c.before in (
+      c.refused.ensures ∙ opening_stop _ _ _ _ (sym r.before.opening_fault.ensures ∙ r.in-Is.is),
       λ n. absurd (something c.refused.ensures n),
     )
 
-pub judge-sheet-spec : {M : Type 1} → statement M
-judge-sheet-spec =
+pub judge_sheet_spec : {M : Type 1} → statement M
+judge_sheet_spec =
     tie.close
     (tie.spec
     (λ c κs. search rules)

@@ -20,7 +20,7 @@ loop-holds : tie.Need-loop-i-init invariant-loop decreases-loop
 loop-holds c = (omega arith, omega arith, refl)
 
 mul-value : tie.Need-overflow_mul-value invariant-loop decreases-loop
-mul-value c = let l = c.before in omega (arith, value_room l.loop.value l.loop.i l.loop.invariant.1 (omega arith))
+mul-value c = let l = c.before in omega (arith, value_room l.loop-i.value l.loop-i.i l.loop-i.invariant.1 (omega arith))
 
 add-value : tie.Need-overflow_add-value invariant-loop decreases-loop
 add-value c =

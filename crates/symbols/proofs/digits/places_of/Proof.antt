@@ -13,7 +13,7 @@ returns-2 c = rw (le-ltb _ _ c.before.if-n-lt10.false, lt-ltb _ _ c.if-n-lt100.t
 
 returns-3 : tie.Need-returns-then-n-lt1000
 unfolding places_of
-returns-3 c = let b = c.before in rw (le-ltb _ _ b.before.if1.false, le-ltb _ _ b.if2.false, lt-ltb _ _ c.if-n-lt1000.true)
+returns-3 c = let b = c.before in rw (le-ltb _ _ b.before.if-n-lt10.false, le-ltb _ _ b.if-n-lt100.false, lt-ltb _ _ c.if-n-lt1000.true)
 
 returns-4 : tie.Need-returns-then-n-lt10000
 unfolding places_of

@@ -16,15 +16,15 @@ use Rattle.symbols.proofs.WriteLaws.{front_is}
 use Rattle.symbols.proofs.exports.export_records.Statement.{statement}
 use Rattle.symbols.proofs.exports.export_records.Tie as tie
 
-abbrev taking : tie.In-Bytes-2 → tie.After-take_records
+abbrev taking : tie.In-Bytes → tie.After-take_records
 taking c = c.before.before
 
-counted : (c : tie.In-Bytes-2) → let a = (taking c).before.before.before.before.before.args in
+counted : (c : tie.In-Bytes) → let a = (taking c).before.before.before.before.before.args in
     (first_of (record_checks (roots_of a.roots.now) 0 (records_of a.holdings.now)) ≡ Nothing) × (c.in-Bytes.n ≡ length (list_of a.roots.now a.holdings.now))
 counted c = exported_bytes _ _ _ (sym c.in-Bytes.is ∙ (taking c).take_records.ensures.0)
 
 -- the lines stand in the text
-standing : (c : tie.In-Bytes-2) → let a = (taking c).before.before.before.before.before.args in
+standing : (c : tie.In-Bytes) → let a = (taking c).before.before.before.before.before.args in
     (taking c).take_records.new.text ≡ put_at (replicate 7936 0) 0 (list_of a.roots.now a.holdings.now)
 standing c = (taking c).take_records.ensures.1 (c.in-Bytes.is ∙ ap Bytes (counted c).1)
 

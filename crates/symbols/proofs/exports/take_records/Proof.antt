@@ -32,7 +32,7 @@ take-record-requires c κs =
     (omega arith, omega (arith, t.small, t.room, z.requires.0))
 
 same_length : tie.Need-shape_of-text-then-taken-ne0 invariant-loop decreases-loop
-same_length c = let t = c.before.before.before.before.before in t.take_record.auto.1.1.1.0 ∙ t.before.before.before.loop.invariant.2
+same_length c = let t = c.before.before.before.before.before in t.take_record-taken.auto.text ∙ t.before.before.before.loop-i.invariant.2
 
 returns : tie.Need-returns-then-taken-ne0 invariant-loop decreases-loop
 unfolding list_of

@@ -15,15 +15,15 @@ use Rattle.symbols.proofs.WriteLaws.{front_is}
 use Rattle.symbols.proofs.imports.import_lines.Statement.{statement}
 use Rattle.symbols.proofs.imports.import_lines.Tie as tie
 
-abbrev taking : tie.In-Records-2 → tie.After-take_lines
+abbrev taking : tie.In-Records → tie.After-take_lines
 taking c = c.before.before
 
-counted : (c : tie.In-Records-2) → let a = (taking c).before.before.before.before.before.args in
+counted : (c : tie.In-Records) → let a = (taking c).before.before.before.before.before.args in
     (first_of (line_checks (roots_of a.roots.now) 0 (lines_of a.list.now)) ≡ Nothing) × (c.in-Records.n ≡ length (lines_of a.list.now))
 counted c = imported_records _ _ _ (sym c.in-Records.is ∙ (taking c).take_lines.ensures.0)
 
 -- the records of at most 256 lines stand in the rows
-standing : (c : tie.In-Records-2) → c.in-Records.n ≤ 256 → let a = (taking c).before.before.before.before.before.args in
+standing : (c : tie.In-Records) → c.in-Records.n ≤ 256 → let a = (taking c).before.before.before.before.before.args in
     take (32 * c.in-Records.n) (taking c).take_lines.new.rows ≡ records_for (roots_of a.roots.now) (lines_of a.list.now)
 standing c h =
     let a = (taking c).before.before.before.before.before.args in

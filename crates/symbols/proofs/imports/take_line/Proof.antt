@@ -22,11 +22,11 @@ line-says-requires : tie.Need-line_says-said-requires
 line-says-requires c κs = formed_length _ (formed c)
 
 slice-aggregate-find-name : tie.Need-slice_bounds-find_name-end
-slice-aggregate-find-name c = let u = c.before.before.before.before in sym (length-take-le 6 u.before.before.before.before.before.args.line.now (omega (arith, formed_length _ (formed u))))
+slice-aggregate-find-name c = let u = c.before.before.before in sym (length-take-le 6 u.before.before.before.before.before.args.line.now (omega (arith, formed_length _ (formed u))))
 
 find-name-requires : tie.Need-find_name-place-requires
 find-name-requires c κs =
-    let u = c.before.before.before.before in
+    let u = c.before.before.before in
     length-take-le 6 c.before.before.before.before.before.before.before.before.args.line.now (omega (arith, formed_length _ (formed u)))
 
 said : (t : tie.Then-line_in_range) → line_in_range (line_says t.before.before.before.before.before.before.before.before.args.line.now) ≡ true
@@ -38,7 +38,7 @@ returns c =
     let b = k.before.before.before in
     let t = b.before.before in
     let f = t.before.before.before in
-    let s = f.before.before in
+    let s = f.before in
     let u = s.before.before.before in
     let a = c.before.before.before.before.before.before.before.before.before.before.before.before.before.before.before.before.before.before.before.args in
     let roots = a.roots.now in
@@ -56,7 +56,7 @@ returns c =
 returns-2 : tie.Need-returns-else-i-lt-MOST_LEGS
 returns-2 c =
     let f = c.before.before in
-    let s = f.before.before in
+    let s = f.before in
     let u = s.before.before.before in
     let a = c.before.before.before.before.before.before.before.before.before.before.before.args in
     let roots = a.roots.now in
@@ -68,7 +68,7 @@ returns-2 c =
 returns-3 : tie.Need-returns-then-line_in_range
 returns-3 c =
     let f = c.before in
-    let s = f.before.before in
+    let s = f.before in
     let u = s.before.before.before in
     let a = c.before.before.before.before.before.before.before.before.before.before.args in
     let roots = a.roots.now in

@@ -36,7 +36,7 @@ take-line-requires : tie.Need-take_line-number-requires invariant-loop decreases
 take-line-requires c κs = c.before.before.before.before.loop-at.invariant.1.room
 
 same_length : tie.Need-shape_of-rows-then-number-ne0 invariant-loop decreases-loop
-same_length c = let t = c.before.before.before in t.take_line.auto.1.1.0 ∙ t.before.before.before.before.before.loop.invariant.0
+same_length c = let t = c.before.before.before in t.take_line-number.auto.rows ∙ t.before.before.before.before.before.loop-at.invariant.0
 
 returns : tie.Need-returns-then-number-ne0 invariant-loop decreases-loop
 returns c =

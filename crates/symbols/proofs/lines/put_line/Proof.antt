@@ -13,13 +13,13 @@ put-digits-requires : tie.Need-put_digits-requires
 put-digits-requires c κs = omega (arith, places_most c.before.before.number-contracts.result, c.before.places_of-places.ensures)
 
 add-end-2 : tie.Need-overflow_add-end-2
-add-end-2 c = let p = c.before.before.before.before in let z = p.before.before.before.before.before.before.before.before.before.before.before.before.before.before in omega (arith, places_most p.before.number.result, p.places_of.ensures)
+add-end-2 c = let p = c.before.before.before.before in let z = p.before.before.before.before.before.before.before.before.before.before.before.before.before.before in omega (arith, places_most p.before.number-contracts.result, p.places_of-places.ensures)
 
 slice-write-out : tie.Need-bounds-out-end
-slice-write-out c = let p = c.before.before.before.before in let z = p.before.before.before.before.before.before.before.before.before.before.before.before.before.before in omega (arith, places_most p.before.number.result, p.places_of.ensures)
+slice-write-out c = let p = c.before.before.before.before in let z = p.before.before.before.before.before.before.before.before.before.before.before.before.before.before in omega (arith, places_most p.before.number-contracts.result, p.places_of-places.ensures)
 
 add-result : tie.Need-overflow_add-result
-add-result c = let p = c.before.before.before.before in let z = p.before.before.before.before.before.before.before.before.before.before.before.before.before.before in omega (arith, places_most p.before.number.result, p.places_of.ensures)
+add-result c = let p = c.before.before.before.before in let z = p.before.before.before.before.before.before.before.before.before.before.before.before.before.before in omega (arith, places_most p.before.number-contracts.result, p.places_of-places.ensures)
 
 same_length : tie.Need-shape_of-out
 same_length c =

@@ -25,42 +25,42 @@ lengths : (s : tie.Start)
 lengths s =
     omega (arith, ap length (both s), length-append (group_line s.args.g s.args.margin) (worksheet_lines s.args.placement.now s.args.g))
 
-abbrev start : tie.After-copy-group → tie.Start
+abbrev start : tie.After-copy_group-bytes → tie.Start
 start k = k.before.before.before.before.before.before.before.before.before
 
 -- the records of the group in the lent table
-copied : (k : tie.After-copy-group)
-    → (let n = k.copy-group.result in
-    let l = k.copy-group.new.1.1.0 in
+copied : (k : tie.After-copy_group-bytes)
+    → (let n = k.copy_group-bytes.result in
+    let l = k.copy_group-bytes.new.table in
     let a = (start k).args in
     (n ≤ length l) × (take n l ≡ group_table a.placement.now a.g))
-copied k = piece_front k.copy-group.ensures
+copied k = piece_front k.copy_group-bytes.ensures
 
-put-worksheet-requires : tie.Need-put-worksheet-requires
+put-worksheet-requires : tie.Need-put_worksheet-requires
 put-worksheet-requires c κs =
-    let k = c.before.before.before.before in
+    let k = c.before.before.before in
     let s = start k in
     let p = s.args.placement.now in
-    rw ((copied k).1, table_lines p s.args.g) (table_answered p s.args.g s.pre.0.0, omega (arith, lengths s))
+    rw ((copied k).1, table_lines p s.args.g) (table_answered p s.args.g s.requires.0.0, omega (arith, lengths s))
 
 returns : tie.Need-returns
 returns c =
     let w = c.before.before in
-    let k = w.before.before.before.before.before in
+    let k = w.before.before.before.before in
     let l = k.before.before.before.before in
     let s = start k in
     piece_is (both s)
-    (piece_then (omega arith) l.put-group-line.ensures
-    (rw ((copied k).1, table_lines s.args.placement.now s.args.g) at w.put-worksheet.ensures))
+    (piece_then (omega arith) c.before.before.before.before.before.before.before.before.before.before.put_group_line-first.ensures
+    (rw ((copied k).1, table_lines s.args.placement.now s.args.g) at w.put_worksheet.ensures))
 
-pub put-group-spec : {M : Type 1} → statement M
-put-group-spec =
+pub put_group_spec : {M : Type 1} → statement M
+put_group_spec =
     tie.close
     (tie.spec
     (λ c κs. omega (arith, lengths c.before.before.before.before))
     (λ c κs. search rules)
     (λ c. (copied c.before.before).0)
-    (λ c. sym (length-take-le _ _ (copied c.before.before.before).0))
+    (λ c. sym (length-take-le _ _ (copied c.before.before).0))
     put-worksheet-requires
     (λ c. search rules)
     (λ c. search rules)

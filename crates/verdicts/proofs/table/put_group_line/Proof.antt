@@ -8,15 +8,15 @@ use borrow.Author.Rules.{rules}
 use Rattle.verdicts.proofs.table.put_group_line.Statement.{statement}
 use Rattle.verdicts.proofs.table.put_group_line.Tie as tie
 
-abbrev start : tie.After-put-text → tie.Start
-start w = w.before.before.before.before
+abbrev start : tie.After-put_text-first → tie.Start
+start w = w.before.before.before.before.before
 
-put-count-requires : tie.Need-put-count-requires
+put-count-requires : tie.Need-put_count-last-requires
 put-count-requires c κs =
     let a = (start c.before.before.before).args in
     omega (arith, length_group_line a.g a.margin)
 
-put-count-requires-2 : tie.Need-put-count-requires-2
+put-count-requires-2 : tie.Need-put_count-requires
 put-count-requires-2 c κs =
     let a = (start c.before.before.before.before.before.before.before).args in
     omega (arith, length_group_line a.g a.margin, length-append (decimal_of a.g) (space ∷ []))
@@ -28,13 +28,12 @@ returns c =
     let w = n.before.before.before.before in
     let a = (start w).args in
     piece_is (group_pieces a.g a.margin)
-    (piece_then (omega arith) (piece_then (omega arith) w.put-text.ensures n.put_count.ensures) m.put-count2.ensures)
+    (piece_then (omega arith) (piece_then (omega arith) w.put_text-first.ensures n.put_count-last.ensures) m.put_count.ensures)
 
-pub put-group-line-spec : {M : Type 1} → statement M
-put-group-line-spec =
+pub put_group_line_spec : {M : Type 1} → statement M
+put_group_line_spec =
     tie.close
     (tie.spec
-    (λ c. search rules)
     (λ c κs. search rules)
     put-count-requires
     put-count-requires-2

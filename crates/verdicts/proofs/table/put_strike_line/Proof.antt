@@ -14,7 +14,7 @@ use borrow.Author.Rules.{rules}
 use Rattle.verdicts.proofs.table.put_strike_line.Statement.{statement}
 use Rattle.verdicts.proofs.table.put_strike_line.Tie as tie
 
-abbrev start : tie.After-put-count → tie.Start
+abbrev start : tie.After-put_count-first → tie.Start
 start n = n.before.before.before
 
 -- the line's length, by that of the strike with its space and of the amount as it is handed on
@@ -31,12 +31,12 @@ returns c =
     let m = e.before.before.before.before in
     let n = m.before.before.before.before in
     let s = start n in
-    let amount = rw (to_z-of_z s.fits.net) at m.put-amount.ensures in
+    let amount = rw (to_z-of_z s.ranges.net) at m.put_amount-last.ensures in
     piece_is (strike_pieces s.args.strike s.args.net)
-    (piece_then (omega arith) (piece_then (omega arith) n.put_count.ensures amount) e.put_byte.ensures)
+    (piece_then (omega arith) (piece_then (omega arith) n.put_count-first.ensures amount) e.put_byte.ensures)
 
-pub put-strike-line-spec : {M : Type 1} → statement M
-put-strike-line-spec =
+pub put_strike_line_spec : {M : Type 1} → statement M
+put_strike_line_spec =
     tie.close
     (tie.spec
     (λ c κs. omega (arith, parts c.before.before, length-append (decimal_of c.before.before.args.strike) (space ∷ [])))

@@ -7,21 +7,21 @@ use borrow.Author.Rules.{rules}
 use Rattle.verdicts.proofs.table.table_text.Statement.{statement}
 use Rattle.verdicts.proofs.table.table_text.Tie as tie
 
-read-table-requires : tie.Need-read-table-requires
+read-table-requires : tie.Need-read_table-requires
 read-table-requires c κs =
-    let n = c.before.before in
-    has_records _ _ _ (sym n.before.before.scan-file.ensures ∙ n.counts.given.1)
+    let n = c.before in
+    has_records _ _ _ (sym n.before.scan_file.ensures ∙ n.in-Read.is)
 
-returns : tie.Need-returns
+returns : tie.Need-returns-in-Refused
 returns c =
-    let q = c.before.before.before in
-    let j = q.before.before in
+    let q = c.before.before in
+    let j = q.before in
     let file = j.before.before.args.file.now in
-    let w = piece_is (refused_text file _ (sym (file_refused file _ (sym j.scan-file.ensures ∙ q.refusal.given.1)))) c.refuse-line.ensures in
+    let w = piece_is (refused_text file _ (sym (file_refused file _ (sym j.scan_file.ensures ∙ q.in-Refused.is)))) c.refuse_line.ensures in
     (omega (arith, w.ends), w.puts)
 
-pub table-text-spec : {M : Type 1} → statement M
-table-text-spec =
+pub table_text_spec : {M : Type 1} → statement M
+table_text_spec =
     tie.close
     (tie.spec
     (λ c κs. search rules)
