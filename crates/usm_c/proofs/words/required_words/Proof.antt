@@ -8,14 +8,14 @@ use Rattle.usm_c.proofs.words.required_words.Tie as tie
 
 cast-done : tie.Need-overflow_cast-mills
 cast-done c =
-    let v = c.required-1.given in
-    mills_fit v.0.0 (record { sfits = c.in-Mills.known_told-1-own.given.0.1 }) (rw v.1 at c.before.requires)
+    let v = c.in-Mills in
+    mills_fit v.mills (record { sfits = v.known_told-1-own.given.0.1 }) (rw v.is at c.before.requires)
 
 returns : tie.Need-returns-in-Mills
 returns c =
-    let v = c.before.required-1.given in
-    let k : SFits w64 v.0.0 = record { sfits = c.before.in-Mills.known_told-1-own.given.0.1 } in
-    rw v.1 (rw (to_z-of_z k) at c.done.ensures)
+    let v = c.before.in-Mills in
+    let k : SFits w64 v.mills = record { sfits = v.known_told-1-own.given.0.1 } in
+    rw v.is (rw (to_z-of_z k) at c.done.ensures)
 
 returns-2 : tie.Need-returns-in-Refused
 returns-2 c = rw c.before.in-Refused.is c.refused.ensures
