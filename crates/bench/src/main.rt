@@ -4,6 +4,7 @@
 // Bytes 8 and 9 of a file's first block say how many blocks the file has. Where they say none, or
 // more than there are, what is left is one file, judged as it stands, and the last one.
 #![tactic(auto)]
+
 ghost use Rattle.std.specs.Prelude.{◌≤◌, ◌<◌, length};
 
 use blocks::BLOCK_BYTES;

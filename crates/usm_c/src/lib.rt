@@ -2,6 +2,7 @@
 // call but the last two is four words: 0 and the results, or a refusal's number, table and place, and 0;
 // the first of them is returned, too. No public function has a `requires`.
 #![tactic(auto)]
+
 ghost use Rattle.std.specs.Prelude.{◌≡◌, length};
 ghost use Rattle.records.specs.Written.{put_at};
 ghost use Rattle.records.specs.declared.tables.Kind.TheVariants.{Holdings, Placement, Claims};
@@ -68,8 +69,8 @@ pub extern "C" fn usm_margins(
     answer: &mut [u64; 4],
 ) -> u64
     ensures value { result ≡ first_word answer.new }
-    ensures answer_after { answer.new ≡ margins_words placement.entry n out.entry }
-    ensures out_after { out.new ≡ margins_left placement.entry n out.entry }
+    ensures answer_after { answer.new ≡ margins_words placement.now n out.old }
+    ensures out_after { out.new ≡ margins_left placement.now n out.old }
 {
     tell(
         listed_words(spreads::margins(placement, n as usize, out)),
@@ -87,9 +88,9 @@ pub extern "C" fn usm_worksheet(
     answer: &mut [u64; 4],
 ) -> u64
     ensures value { result ≡ first_word answer.new }
-    ensures answer_after { answer.new ≡ worksheet_words placement.entry g strikes.entry nets.entry }
-    ensures strikes_after { strikes.new ≡ strikes_left placement.entry g strikes.entry nets.entry }
-    ensures nets_after { nets.new ≡ nets_left placement.entry g strikes.entry nets.entry }
+    ensures answer_after { answer.new ≡ worksheet_words placement.now g strikes.old nets.old }
+    ensures strikes_after { strikes.new ≡ strikes_left placement.now g strikes.old nets.old }
+    ensures nets_after { nets.new ≡ nets_left placement.now g strikes.old nets.old }
 {
     tell(
         listed_words(spreads::worksheet(placement, g as usize, strikes, nets)),
@@ -118,8 +119,8 @@ pub extern "C" fn usm_check_sheet(
 #[unsafe(no_mangle)]
 pub extern "C" fn usm_mark_paid(placement: &mut [u8], answer: &mut [u64; 4]) -> u64
     ensures value { result ≡ first_word answer.new }
-    ensures answer_after { answer.new ≡ mark_words placement.entry }
-    ensures placement_after { placement.new ≡ placement_left placement.entry }
+    ensures answer_after { answer.new ≡ mark_words placement.old }
+    ensures placement_after { placement.new ≡ placement_left placement.old }
 {
     tell(marked_words(sheets::mark_paid(placement)), answer)
 }
@@ -144,11 +145,11 @@ pub extern "C" fn usm_read_file(
     answer: &mut [u64; 4],
 ) -> u64
     ensures value { result ≡ first_word answer.new }
-    ensures answer_after { answer.new ≡ read_words file.entry holdings.entry placement.entry claims.entry }
-    ensures holdings_after { holdings.new ≡ table_left Holdings file.entry holdings.entry placement.entry claims.entry }
-    ensures placement_after { placement.new ≡ table_left Placement file.entry holdings.entry placement.entry claims.entry }
-    ensures claims_after { claims.new ≡ table_left Claims file.entry holdings.entry placement.entry claims.entry }
-    ensures origin_after { origin.new ≡ origin_left file.entry holdings.entry placement.entry claims.entry origin.entry }
+    ensures answer_after { answer.new ≡ read_words file.now holdings.old placement.old claims.old }
+    ensures holdings_after { holdings.new ≡ table_left Holdings file.now holdings.old placement.old claims.old }
+    ensures placement_after { placement.new ≡ table_left Placement file.now holdings.old placement.old claims.old }
+    ensures claims_after { claims.new ≡ table_left Claims file.now holdings.old placement.old claims.old }
+    ensures origin_after { origin.new ≡ origin_left file.now holdings.old placement.old claims.old origin.old }
 {
     let reading = blocks::read_file(file, holdings, placement, claims);
     put_origin(reading, origin);
@@ -167,8 +168,8 @@ pub extern "C" fn usm_write_file(
     answer: &mut [u64; 4],
 ) -> u64
     ensures value { result ≡ first_word answer.new }
-    ensures answer_after { answer.new ≡ write_words form account holdings.entry placement.entry claims.entry out.entry }
-    ensures out_after { out.new ≡ out_left form account holdings.entry placement.entry claims.entry out.entry }
+    ensures answer_after { answer.new ≡ write_words form account holdings.now placement.now claims.now out.old }
+    ensures out_after { out.new ≡ out_left form account holdings.now placement.now claims.now out.old }
 {
     tell(
         writing_words(write_as(holdings, placement, claims, form, account, out)),
@@ -185,8 +186,8 @@ pub extern "C" fn usm_move_to_new(
     answer: &mut [u64; 4],
 ) -> u64
     ensures value { result ≡ first_word answer.new }
-    ensures answer_after { answer.new ≡ move_words Old (in_new account) file.entry out.entry }
-    ensures out_after { out.new ≡ moved_left Old (in_new account) file.entry out.entry }
+    ensures answer_after { answer.new ≡ move_words Old (in_new account) file.now out.old }
+    ensures out_after { out.new ≡ moved_left Old (in_new account) file.now out.old }
 {
     tell(writing_words(blocks::to_new(file, account, out)), answer)
 }
@@ -195,8 +196,8 @@ pub extern "C" fn usm_move_to_new(
 #[unsafe(no_mangle)]
 pub extern "C" fn usm_move_to_old(file: &[u8], out: &mut [u8], answer: &mut [u64; 4]) -> u64
     ensures value { result ≡ first_word answer.new }
-    ensures answer_after { answer.new ≡ move_words New in_old file.entry out.entry }
-    ensures out_after { out.new ≡ moved_left New in_old file.entry out.entry }
+    ensures answer_after { answer.new ≡ move_words New in_old file.now out.old }
+    ensures out_after { out.new ≡ moved_left New in_old file.now out.old }
 {
     tell(writing_words(blocks::to_old(file, out)), answer)
 }
@@ -212,10 +213,10 @@ pub extern "C" fn usm_play_fills(
     answer: &mut [u64; 4],
 ) -> u64
     ensures value { result ≡ first_word answer.new }
-    ensures answer_after { answer.new ≡ play_words holdings.entry fills.entry res.entry indices.entry numbers.entry }
-    ensures res_after { res.new ≡ result_left holdings.entry fills.entry res.entry indices.entry numbers.entry }
-    ensures indices_after { indices.new ≡ indices_left holdings.entry fills.entry res.entry indices.entry numbers.entry }
-    ensures numbers_after { numbers.new ≡ numbers_left holdings.entry fills.entry res.entry indices.entry numbers.entry }
+    ensures answer_after { answer.new ≡ play_words holdings.now fills.now res.old indices.old numbers.old }
+    ensures res_after { res.new ≡ result_left holdings.now fills.now res.old indices.old numbers.old }
+    ensures indices_after { indices.new ≡ indices_left holdings.now fills.now res.old indices.old numbers.old }
+    ensures numbers_after { numbers.new ≡ numbers_left holdings.now fills.now res.old indices.old numbers.old }
 {
     tell(
         played_words(fills::play(holdings, fills, res, indices, numbers)),
@@ -232,8 +233,8 @@ pub extern "C" fn usm_import(
     answer: &mut [u64; 4],
 ) -> u64
     ensures value { result ≡ first_word answer.new }
-    ensures answer_after { answer.new ≡ import_words roots.entry list.entry holdings.entry }
-    ensures holdings_after { holdings.new ≡ import_left roots.entry list.entry holdings.entry }
+    ensures answer_after { answer.new ≡ import_words roots.now list.now holdings.old }
+    ensures holdings_after { holdings.new ≡ import_left roots.now list.now holdings.old }
 {
     tell(
         imported_words(symbols::import(roots, list, holdings)),
@@ -250,8 +251,8 @@ pub extern "C" fn usm_export(
     answer: &mut [u64; 4],
 ) -> u64
     ensures value { result ≡ first_word answer.new }
-    ensures answer_after { answer.new ≡ export_words roots.entry holdings.entry list.entry }
-    ensures list_after { list.new ≡ export_left roots.entry holdings.entry list.entry }
+    ensures answer_after { answer.new ≡ export_words roots.now holdings.now list.old }
+    ensures list_after { list.new ≡ export_left roots.now holdings.now list.old }
 {
     tell(
         exported_words(symbols::export(roots, holdings, list)),
@@ -269,10 +270,10 @@ pub extern "C" fn usm_salvage(
     answer: &mut [u64; 4],
 ) -> u64
     ensures value { result ≡ first_word answer.new }
-    ensures answer_after { answer.new ≡ salvage_words bytes.entry out.entry indices.entry numbers.entry }
-    ensures out_after { out.new ≡ sound_left bytes.entry out.entry indices.entry numbers.entry }
-    ensures indices_after { indices.new ≡ dropped_left bytes.entry out.entry indices.entry numbers.entry }
-    ensures numbers_after { numbers.new ≡ reasons_left bytes.entry out.entry indices.entry numbers.entry }
+    ensures answer_after { answer.new ≡ salvage_words bytes.now out.old indices.old numbers.old }
+    ensures out_after { out.new ≡ sound_left bytes.now out.old indices.old numbers.old }
+    ensures indices_after { indices.new ≡ dropped_left bytes.now out.old indices.old numbers.old }
+    ensures numbers_after { numbers.new ≡ reasons_left bytes.now out.old indices.old numbers.old }
 {
     tell(
         salvaged_words(salvage::salvage(bytes, out, indices, numbers)),

@@ -28,8 +28,8 @@ pub(crate) fn write_as(
     account: u64,
     out: &mut [u8],
 ) -> Writing
-    ensures value { result ≡ write_as form account (lent_tables holdings.entry placement.entry claims.entry) (length out.old) }
-    ensures out_after { out.new ≡ written_as result form account (lent_tables holdings.entry placement.entry claims.entry) out.old }
+    ensures value { result ≡ write_as form account (lent_tables holdings.now placement.now claims.now) (length out.old) }
+    ensures out_after { out.new ≡ written_as result form account (lent_tables holdings.now placement.now claims.now) out.old }
 {
     match form {
         1 => {

@@ -1,6 +1,7 @@
 // Reads a sheet file on standard input and prints its table, or the REFUSE line of a refused one. Nothing
 // but glue: what matters is proved in `verdicts` and below it.
 #![tactic(auto)]
+
 use blocks::INPUT_BYTES;
 use verdicts::TABLE_BYTES;
 

@@ -5,14 +5,14 @@ use borrow.Author.Rules.{rules}
 use Rattle.bench.proofs.print_line.Statement.{statement}
 use Rattle.bench.proofs.print_line.Tie as tie
 
-array-share-prefix-line : tie.Need-array-share-prefix-line
-array-share-prefix-line c = let v = c.verdict-line.ensures in rw (v.1, v.0) (put_holds _ _)
+array-share-prefix-line : tie.Need-slice_bounds-line-end
+array-share-prefix-line c = let v = c.verdict_line-k.ensures in rw (v.1, v.0) (put_holds _ _)
 
-slice-aggregate-write-all : tie.Need-slice-aggregate-write-all
-slice-aggregate-write-all c = let v = c.before.verdict-line.ensures in sym (length-take-le _ _ (rw (v.1, v.0) (put_holds _ _)))
+slice-aggregate-write-all : tie.Need-slice_bounds-write_all-end
+slice-aggregate-write-all c = let v = c.before.verdict_line-k.ensures in sym (length-take-le _ _ (rw (v.1, v.0) (put_holds _ _)))
 
-pub print-line-spec : {M : Type 1} → statement M
-print-line-spec =
+pub print_line_spec : {M : Type 1} → statement M
+print_line_spec =
     tie.close
     (tie.spec
     (λ c κs. search rules)

@@ -5,13 +5,13 @@ use borrow.Author.Rules.{rules}
 use Rattle.usm_c.proofs.usm_check_file.Statement.{statement}
 use Rattle.usm_c.proofs.usm_check_file.Tie as tie
 
-verdict-words-requires : tie.Need-verdict-words-requires
-verdict-words-requires c κs = rw c.check-file.ensures (file_mills _)
+verdict-words-requires : tie.Need-verdict_words-requires
+verdict-words-requires c κs = rw c.check_file.ensures (file_mills _)
 
 returns : tie.Need-returns
 returns c =
     let w = c.before.before in
-    (c.tell.ensures.0, c.tell.ensures.1 ∙ w.verdict-words.ensures ∙ ap verdict_words w.before.check-file.ensures)
+    (c.tell.ensures.0, c.tell.ensures.1 ∙ w.verdict_words.ensures ∙ ap verdict_words w.before.check_file.ensures)
 
-pub usm-check-file-spec : {M : Type 1} → statement M
-usm-check-file-spec = tie.close (tie.spec (λ c κs. search rules) verdict-words-requires (λ c κs. search rules) returns)
+pub usm_check_file_spec : {M : Type 1} → statement M
+usm_check_file_spec = tie.close (tie.spec (λ c κs. search rules) verdict-words-requires (λ c κs. search rules) returns)

@@ -4,7 +4,7 @@ use Rattle.usm_c.proofs.usm_check_table.Statement.{statement}
 use Rattle.usm_c.proofs.usm_check_table.Tie as tie
 
 returns : tie.Need-returns
-returns c = (c.tell.ensures.0, c.tell.ensures.1 ∙ c.before.before.table-words.ensures)
+returns c = (c.tell.ensures.0, c.tell.ensures.1 ∙ c.before.before.table_words.ensures)
 
-pub usm-check-table-spec : {M : Type 1} → statement M
-usm-check-table-spec = tie.close (tie.spec (λ c κs. search rules) (λ c κs. search rules) returns)
+pub usm_check_table_spec : {M : Type 1} → statement M
+usm_check_table_spec = tie.close (tie.spec (λ c κs. search rules) (λ c κs. search rules) returns)

@@ -7,7 +7,7 @@ returns : tie.Need-returns
 returns c =
     let w = c.before.before in
     let r = w.before.before.before.export.ensures in
-    (c.tell.ensures.0, (c.tell.ensures.1 ∙ (rw r.0 at w.exported-words.ensures), rw r.0 at r.1))
+    (c.tell.ensures.0, (c.tell.ensures.1 ∙ (rw r.0 at w.exported_words.ensures), rw r.0 at r.1))
 
-pub usm-export-spec : {M : Type 1} → statement M
-usm-export-spec = tie.close (tie.spec (λ c κs. search rules) (λ c κs. search rules) (λ c κs. search rules) (λ c. search rules) returns)
+pub usm_export_spec : {M : Type 1} → statement M
+usm_export_spec = tie.close (tie.spec (λ c κs. search rules) (λ c κs. search rules) (λ c κs. search rules) (λ c. search rules) returns)

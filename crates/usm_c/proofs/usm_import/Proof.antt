@@ -7,7 +7,7 @@ returns : tie.Need-returns
 returns c =
     let w = c.before.before in
     let r = w.before.before.before.import.ensures in
-    (c.tell.ensures.0, (c.tell.ensures.1 ∙ (rw r.0 at w.imported-words.ensures), rw r.0 at r.1))
+    (c.tell.ensures.0, (c.tell.ensures.1 ∙ (rw r.0 at w.imported_words.ensures), rw r.0 at r.1))
 
-pub usm-import-spec : {M : Type 1} → statement M
-usm-import-spec = tie.close (tie.spec (λ c κs. search rules) (λ c κs. search rules) (λ c κs. search rules) (λ c. search rules) returns)
+pub usm_import_spec : {M : Type 1} → statement M
+usm_import_spec = tie.close (tie.spec (λ c κs. search rules) (λ c κs. search rules) (λ c κs. search rules) (λ c. search rules) returns)

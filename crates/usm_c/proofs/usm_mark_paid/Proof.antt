@@ -6,9 +6,9 @@ use Rattle.usm_c.proofs.usm_mark_paid.Tie as tie
 returns : tie.Need-returns
 returns c =
     let w = c.before.before in
-    let r = w.before.before.before.mark-paid.ensures in
-    (c.tell.ensures.0, (c.tell.ensures.1 ∙ (rw r.0 at w.marked-words.ensures), rw r.0 at r.1))
+    let r = w.before.before.before.mark_paid.ensures in
+    (c.tell.ensures.0, (c.tell.ensures.1 ∙ (rw r.0 at w.marked_words.ensures), rw r.0 at r.1))
 
-pub usm-mark-paid-spec : {M : Type 1} → statement M
-usm-mark-paid-spec =
+pub usm_mark_paid_spec : {M : Type 1} → statement M
+usm_mark_paid_spec =
     tie.close (tie.spec (λ c κs. search rules) (λ c κs. search rules) (λ c κs. search rules) (λ c. search rules) returns)

@@ -5,11 +5,11 @@ use borrow.Author.Rules.{rules}
 use Rattle.usm_check.proofs.main.Statement.{statement}
 use Rattle.usm_check.proofs.main.Tie as tie
 
-array-share-prefix-line : tie.Need-array-share-prefix-line
-array-share-prefix-line c = let v = c.verdict-line.ensures in rw (v.1, v.0) (put_holds _ _)
+array-share-prefix-line : tie.Need-slice_bounds-line-end
+array-share-prefix-line c = let v = c.verdict_line-k.ensures in rw (v.1, v.0) (put_holds _ _)
 
-slice-aggregate-write-all : tie.Need-slice-aggregate-write-all
-slice-aggregate-write-all c = let v = c.before.verdict-line.ensures in sym (length-take-le _ _ (rw (v.1, v.0) (put_holds _ _)))
+slice-aggregate-write-all : tie.Need-slice_bounds-write_all-end
+slice-aggregate-write-all c = let v = c.before.verdict_line-k.ensures in sym (length-take-le _ _ (rw (v.1, v.0) (put_holds _ _)))
 
 pub main_spec : {M : Type 1} → statement M
 main_spec =

@@ -4,11 +4,11 @@ use Rattle.usm_c.proofs.PositionLaws.{no_mark, a_mark}
 use Rattle.usm_c.proofs.positions.pair_as.Statement.{statement}
 use Rattle.usm_c.proofs.positions.pair_as.Tie as tie
 
-returns : tie.Need-returns
-returns c = c.no-position.ensures ∙ no_mark _ _ _ _ c.before.if1.true
+returns : tie.Need-returns-then-paid-gt1
+returns c = c.no_position.ensures ∙ no_mark _ _ _ _ c.before.if-paid-gt1.true
 
-returns-2 : tie.Need-returns-2
-returns-2 c = c.pair-margin.ensures ∙ a_mark _ _ _ _ c.before.if1.false
+returns-2 : tie.Need-returns
+returns-2 c = c.pair_margin.ensures ∙ a_mark _ _ _ _ c.before.if-paid-gt1.false
 
-pub pair-as-spec : {M : Type 1} → statement M
-pair-as-spec = tie.close (tie.spec (λ c κs. search rules) returns (λ c κs. search rules) returns-2)
+pub pair_as_spec : {M : Type 1} → statement M
+pair_as_spec = tie.close (tie.spec (λ c κs. search rules) returns (λ c κs. search rules) returns-2)

@@ -6,22 +6,22 @@ use borrow.Author.Rules.{rules}
 use Rattle.usm_c.proofs.words.due_words.Statement.{statement}
 use Rattle.usm_c.proofs.words.due_words.Tie as tie
 
-cast-done : tie.Need-overflow-cast-done
+cast-done : tie.Need-overflow_cast-mills
 cast-done c =
-    let v = c.before.due.given in
-    mills_fit v.0.0 (record { sfits = c.known-told.given.0.1 }) (rw v.1 at c.before.before.before.requires)
+    let v = c.in-Mills in
+    mills_fit v.mills (record { sfits = v.known_told-1-own.given.0.1 }) (rw v.is at c.before.requires)
 
-returns : tie.Need-returns
+returns : tie.Need-returns-in-Mills
 returns c =
-    let v = c.before.before.due.given in
-    let k : SFits w64 v.0.0 = record { sfits = c.before.known-told.given.0.1 } in
-    rw v.1 (rw (to_z-of_z k) at c.done.ensures)
+    let v = c.before.in-Mills in
+    let k : SFits w64 v.mills = record { sfits = v.known_told-1-own.given.0.1 } in
+    rw v.is (rw (to_z-of_z k) at c.done.ensures)
 
-returns-2 : tie.Need-returns-2
-returns-2 c = rw c.before.before.due2.given.1 c.refused.ensures
+returns-2 : tie.Need-returns-in-Refused
+returns-2 c = rw c.before.in-Refused.is c.refused.ensures
 
-pub due-words-spec : {M : Type 1} → statement M
-due-words-spec =
+pub due_words_spec : {M : Type 1} → statement M
+due_words_spec =
     tie.close
     (tie.spec
     (λ c. search rules)

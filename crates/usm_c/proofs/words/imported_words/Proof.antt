@@ -2,14 +2,14 @@ use borrow.Author.Rules.{rules}
 use Rattle.usm_c.proofs.words.imported_words.Statement.{statement}
 use Rattle.usm_c.proofs.words.imported_words.Tie as tie
 
-returns : tie.Need-returns
-returns c = rw c.before.before.imported.given.1 c.done.ensures
+returns : tie.Need-returns-in-Records
+returns c = rw c.before.in-Records.is c.done.ensures
 
-returns-2 : tie.Need-returns-2
-returns-2 c = rw c.before.before.imported2.given.1 c.refused.ensures
+returns-2 : tie.Need-returns-in-Refused
+returns-2 c = rw c.before.in-Refused.is c.refused.ensures
 
-pub imported-words-spec : {M : Type 1} → statement M
-imported-words-spec =
+pub imported_words_spec : {M : Type 1} → statement M
+imported_words_spec =
     tie.close
     (tie.spec
     (λ c. search rules)

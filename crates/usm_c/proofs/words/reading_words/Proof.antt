@@ -2,14 +2,14 @@ use borrow.Author.Rules.{rules}
 use Rattle.usm_c.proofs.words.reading_words.Statement.{statement}
 use Rattle.usm_c.proofs.words.reading_words.Tie as tie
 
-returns : tie.Need-returns
-returns c = rw c.before.before.reading.given.1 c.done.ensures
+returns : tie.Need-returns-in-Read
+returns c = rw c.before.in-Read.is c.done.ensures
 
-returns-2 : tie.Need-returns-2
-returns-2 c = rw c.before.before.reading2.given.1 c.refused.ensures
+returns-2 : tie.Need-returns-in-Refused
+returns-2 c = rw c.before.in-Refused.is c.refused.ensures
 
-pub reading-words-spec : {M : Type 1} → statement M
-reading-words-spec =
+pub reading_words_spec : {M : Type 1} → statement M
+reading_words_spec =
     tie.close
     (tie.spec
     (λ c. search rules)
