@@ -2,7 +2,7 @@
 use mathlib.Core.Path.{◌≡◌, refl, ◌∙◌}
 use mathlib.Core.Bool.{true}
 use mathlib.Core.List.{List, [], ◌∷◌, ◌++◌, append-nil, flat_map}
-use Prim.Native.Nat.{ℕ, ◌+◌}
+use Prim.Native.Nat.{ℕ}
 use Rattle.records.specs.Chunks.{chunks, records_of}
 use Rattle.records.specs.Lists.{All}
 use Rattle.records.specs.Tables.{good_record, table_number, field_checks, fields_checks}

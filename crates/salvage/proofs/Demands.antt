@@ -10,7 +10,6 @@ use borrow.Author.Tests.{le-leb}
 use Rattle.records.specs.Bytes.{le_at}
 use Rattle.records.specs.Listed.{indices_of, numbers_of}
 use Rattle.records.specs.Order.{first_of}
-use Rattle.records.specs.Within.{within}
 use Rattle.records.specs.declared.refusals.Fault.{Fault}
 use Rattle.records.specs.declared.refusals.Fault.TheVariants.{Nothing, Is}
 use Rattle.records.proofs.ListLaws.{all_map}

@@ -1,6 +1,6 @@
 -- What is demanded of a salvage, of the definitions that the contract of `salvage` cites; the proofs stand in proofs/Undamaged,
 -- ListedLaws and Demands.
-use Rattle.std.specs.Prelude.{ℕ, ◌/◌, ◌%◌, ◌+◌, ◌≤◌, ◌<◌, ◌≡◌, true, false, not, List, [], ◌∷◌, eqb, length, take}
+use Rattle.std.specs.Prelude.{ℕ, ◌/◌, ◌%◌, ◌+◌, ◌≤◌, ◌<◌, ◌≡◌, true, false, not, List, [], eqb, length, take}
 use Rattle.records.specs.Bytes.{AllBytes}
 use Rattle.records.specs.Chunks.{chunk_at}
 use Rattle.records.specs.Lists.{All, Ascending, same, only, sum_of}

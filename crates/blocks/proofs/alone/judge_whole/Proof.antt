@@ -4,7 +4,6 @@ use mathlib.Core.List.{List}
 use Prim.Native.Nat.{ℕ}
 use lib.ListN.{length}
 use borrow.Author.Rules.{rules}
-use borrow.Author.Tests.{not-true, not-false}
 use Rattle.records.specs.Order.{first_of}
 use Rattle.blocks.specs.Forms.{named}
 use Rattle.blocks.specs.Block.{origin_of, sums_agree, shaped}
