@@ -1,4 +1,4 @@
-//! Links the proved library, `libusm_c.a`, which `rt staticlib usm_c` makes, and hands on the header's version.
+//! Links the proved library, `libusm_c.a`, which `rt lib` in crates/usm_c makes, and hands on the header's version.
 
 use std::path::PathBuf;
 use std::{env, fs, process};
@@ -18,13 +18,13 @@ fn main() {
     let package = PathBuf::from(env::var_os("CARGO_MANIFEST_DIR").expect("cargo names the package"));
     let folder = match env::var_os(FOLDER_VARIABLE) {
         Some(named) => package.join(named),
-        None => package.join("../target/staticlib"),
+        None => package.join("../crates/usm_c/out"),
     };
     let library = folder.join(LIBRARY);
     println!("cargo:rerun-if-changed={}", library.display());
     if !library.is_file() {
         eprintln!(
-            "{} is not there. Make it with `rt staticlib usm_c` at the root of the repository, \
+            "{} is not there. Make it with `rt lib` in crates/usm_c, \
              or name the folder that holds it in {FOLDER_VARIABLE}.",
             library.display()
         );

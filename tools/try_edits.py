@@ -7,17 +7,19 @@ the edits; each edit's check begins with the work that was kept there, N of them
 processors, but no more than four, if N is left out). What a check said stands afterwards in
 target/edits/CRATE/EDIT.log, and in target/edits/CRATE/check.log what it said of the crate as it stands.
 
-A line for each edit:
-    refused            the crate is not proved with it: followed by the first error
+A line for each edit, with the seconds that it took and, where there is more to say, the first error:
+    refused            the crate is not proved with it
     NOT REFUSED        the crate is still proved with it
-    BAD EDIT           it does not fit the text, does not compile, or the prover cannot read what it wrote
+    BAD EDIT           it does not fit the code or a definition, does not compile, or the prover cannot read what it wrote
     A NAME IS MISSING  it is refused only because proof files name what it took away: that says nothing of a contract
-    NOT TRIED          its check gave no verdict
-The judgement is that of `rt must-fail`, which tries the edits that stand right in must-fail/. The last line is
-'N passed, M failed'; the exit status is 0 where all were refused, 1 where one was not, 2 where they cannot be tried."""
+`rt must-fail` judges the edits that stand right in must-fail/ in the same way, but for the last kind, which it lets
+pass. The last line is 'N passed, M failed'; the exit status is 0 where all were refused, 1 where one was not, 2 where
+they cannot be tried."""
 
 import argparse
 import fcntl
+import functools
+import glob
 import hashlib
 import os
 import queue
@@ -29,8 +31,9 @@ import tempfile
 import time
 from concurrent.futures import ThreadPoolExecutor
 
-TOP = os.path.dirname(os.path.dirname(os.path.abspath(__file__)))
+TOP = os.path.dirname(os.path.dirname(os.path.realpath(__file__)))
 PARTS = ("src", "specs", "proofs")
+ALL = "crates/*/must-fail/wrong-answers/*.edit"
 
 
 def stop(why):
@@ -39,6 +42,7 @@ def stop(why):
     sys.exit(2)
 
 
+@functools.lru_cache(maxsize=None)
 def listed():
     """Returns the lines of crates.txt, by the names of their crates."""
     lines = [it.partition("#")[0].strip() for it in open(f"{TOP}/crates.txt", encoding="utf-8")]
@@ -82,20 +86,20 @@ def room_for(crate, names, base, room):
 
 
 def apply(edit, folder):
-    """Applies an edit as rt does, and returns the files that it changed, or says why it does not fit."""
+    """Applies an edit of code or definitions as rt does, and returns the files that it changed, or says why it does not fit."""
     path, old, texts, was = "", "", {}, {}
     for line in open(edit, encoding="utf-8").read().split("\n"):
         if line.startswith("file: "):
             path = line[len("file: ") :].strip()
-            if os.path.normpath(path) != path or not path.startswith(tuple(f"{it}/" for it in PARTS)):
-                return None, f"{path} is no file below src/, specs/ or proofs/"
+            if os.path.normpath(path) != path or not path.startswith(("src/", "specs/")):
+                return None, f"{path} is no file below src/ or specs/"
         elif line.startswith("old: "):
             old = line[len("old: ") :]
         elif line.startswith("new:"):
             new = line[len("new:") :]
             new = new[1:] if new.startswith(" ") else new
             if not path or not old:
-                return None, "a 'new:' line stands before any 'file:' or 'old:' line"
+                return None, "a 'new:' line has no 'file:' line, or no 'old:' line of its own, before it"
             if path not in texts:
                 if not os.path.isfile(f"{folder}/{path}"):
                     return None, f"there is no file {path}"
@@ -126,32 +130,32 @@ LIMITS = r"antt ran out of (stack|the (steps|memory) that the check of)|(outgrew
 NAMES = r"(note: )?(\./)?proofs/.*(has no field|is not in scope|has no `|was not admitted)"
 
 
-def judged(status, said, changed):
-    """Returns whether the edit is refused, and what to say of it."""
+def judged(status, said, changed, log):
+    """Returns whether the edit is refused, what it came to, and why."""
     lines = said.rstrip("\n").split("\n")
     told = [it for it in lines if re.match(r"(note: )?\S+:\d+:\d+:", it)]
     told = [it for it in told if ": error" in it or it.startswith("note: ")] or told
     bad = next((it for it in lines if unread(it, changed)), "")
     if status == 1 and bad:
-        return False, f"BAD EDIT: the prover cannot read it: {bad}"
+        return False, "BAD EDIT: the prover cannot read it", bad
     if status == 1 and any(it.startswith("logic=not-proved") for it in lines):
         first = next((it for it in told if not re.match(NAMES, it)), "")
         if told and not first:
-            return False, f"A NAME IS MISSING: {told[0]}"
-        return True, f"refused: {first}"
+            return False, "A NAME IS MISSING", told[0]
+        return True, "refused", first
     if status == 0:
-        return False, "NOT REFUSED: the crate is still proved with it"
-    if status == 3 and re.search(LIMITS, said):
-        return True, f"refused, by a limit of the prover alone: {(told or lines)[0]}"
-    compiles = next((it for it in lines if re.search(r"\berror\[[\w-]+\]", it)), "")
-    if status == 1 and compiles:
-        return False, f"BAD EDIT: it does not compile: {compiles}"
-    return False, f"NOT TRIED: its check ended with status {status}"
+        return False, "NOT REFUSED: the crate is still proved with this edit", ""
+    limit = next((it for it in lines if re.search(LIMITS, it)), "")
+    if status == 3 and limit:
+        return True, "refused, only by a limit of the prover", limit
+    why = next((it for it in lines if re.search(r"\berror\[[\w-]+\]", it)), log)
+    return False, f"BAD EDIT: it did not reach the prover (exit {status})", why
 
 
-def check(folder, log):
+def check(folder, log, *flags):
     """Runs rt check in a crate's folder, and returns its status and what it said."""
-    ran = subprocess.run(["rt", "check", "--jobs", "1"], cwd=folder, stdin=subprocess.DEVNULL, stdout=subprocess.PIPE, stderr=subprocess.STDOUT)
+    how = {"cwd": folder, "stdin": subprocess.DEVNULL, "stdout": subprocess.PIPE, "stderr": subprocess.STDOUT}
+    ran = subprocess.run(["rt", "check", *flags], **how)
     said = ran.stdout.decode(errors="replace")
     with open(log, "w", encoding="utf-8") as it:
         it.write(said)
@@ -169,13 +173,13 @@ def main():
 
     deps, edits = libraries(), []
     for it in given.edits:
-        inside = os.path.relpath(os.path.abspath(it), TOP)
+        inside = os.path.relpath(os.path.realpath(it), TOP)
         if not os.path.isfile(it) or not re.fullmatch(r"crates/\w+/must-fail/(.+/)?[\w.-]+\.edit", inside):
             stop(f"there is no edit {it}")
         edits.append(inside)
-    for name in deps if not edits else ():
-        folder = f"crates/{name}/must-fail/wrong-answers"
-        edits += sorted(f"{folder}/{it}" for it in os.listdir(f"{TOP}/{folder}") if it.endswith(".edit")) if os.path.isdir(f"{TOP}/{folder}") else []
+    edits = edits or sorted(os.path.relpath(it, TOP) for it in glob.glob(f"{glob.escape(TOP)}/{ALL}"))
+    if not edits:
+        stop(f"there is no edit {ALL}")
     crate_of = lambda edit: edit.split("/")[1]
     unlisted = [it for it in edits if crate_of(it) not in deps]
     if unlisted:
@@ -185,7 +189,8 @@ def main():
 
     # Rooms of one name for each checkout, since rt notes the folders in which a check kept work.
     rooms = f"{tempfile.gettempdir()}/try-edits-{os.getuid()}-{hashlib.sha256(TOP.encode()).hexdigest()[:12]}"
-    with open(f"{rooms}.lock", "w") as lock:
+    os.makedirs(f"{TOP}/target/edits", exist_ok=True)
+    with open(f"{TOP}/target/edits/lock", "w") as lock:
         try:
             fcntl.flock(lock, fcntl.LOCK_EX | fcntl.LOCK_NB)
         except BlockingIOError:
@@ -216,7 +221,8 @@ def tried(edits, crates, crate_of, deps, rooms, jobs):
         os.makedirs(f"{logs}/{crate}", exist_ok=True)
         if check(f"{base}/crates/{crate}", f"{logs}/{crate}/check.log")[0]:
             unproved.add(crate)
-            print(f"edits: {crate} is not proved as it stands, so its edits are not tried: target/edits/{crate}/check.log", flush=True)
+            why = f"{crate} is not proved as it stands, so its edits are not tried: target/edits/{crate}/check.log"
+            print(f"edits: {why}", file=sys.stderr, flush=True)
 
     slots = queue.Queue()
     for it in range(max(1, jobs)):
@@ -232,16 +238,19 @@ def tried(edits, crates, crate_of, deps, rooms, jobs):
             room = f"{rooms}/{slot}"
             room_for(crate, below(crate, deps), base, room)
             changed, why = apply(f"{rooms}/edits/{crate}/{name}.edit", f"{room}/crates/{crate}")
-            holds, said = (False, f"BAD EDIT: {why}") if why else judged(*check(f"{room}/crates/{crate}", log), changed)
+            is_refused, what = False, f"BAD EDIT: it does not fit the code and definitions of {crate}"
+            if changed:
+                status, said = check(f"{room}/crates/{crate}", log, "--jobs", "1")
+                is_refused, what, why = judged(status, said, changed, os.path.relpath(log, TOP))
         finally:
             slots.put(slot)
-        print(f"edits: {crate}/{name} ({time.monotonic() - began:.0f} s): {said}"[:400], flush=True)
-        return holds
+        print(f"edits: {crate}/{name}: {what} ({time.monotonic() - began:.0f} s){': ' * bool(why)}{why}"[:400], flush=True)
+        return is_refused
 
     with ThreadPoolExecutor(max(1, jobs)) as pool:
         passed = sum(pool.map(one, [it for it in edits if crate_of(it) not in unproved]))
     print(f"{passed} passed, {len(edits) - passed} failed")
-    return 0 if passed == len(edits) else 1
+    return 2 if unproved else 0 if passed == len(edits) else 1
 
 
 if __name__ == "__main__":

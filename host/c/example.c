@@ -3,7 +3,7 @@
  * as two groups, checked, written as a file, read back, played on by a day's fills, and
  * refused when a claim is a mill short. Each call of usm.h is made at least once.
  *
- *   cc -I ../include example.c ../../target/staticlib/libusm_c.a -o example
+ *   cc -I ../include example.c ../../crates/usm_c/out/libusm_c.a -o example
  */
 
 #include <inttypes.h>

@@ -8,14 +8,14 @@ use std::thread::sleep;
 use std::time::Duration;
 use usm_kit::repository;
 
-/// The program of this name: where `USM_CHECK`, `USM_TABLE` or `USM_BENCH` says, or where `rt check` puts it.
+/// The program of this name: where `USM_CHECK`, `USM_TABLE` or `USM_BENCH` says, or where `rt run` and `rt ci` put it.
 pub fn built(name: &str) -> PathBuf {
     let variable = format!("USM_{}", name.trim_start_matches("usm_").to_uppercase());
-    let built = repository().join("target/bin").join(name);
+    let built = repository().join("crates").join(name).join("out").join(name);
     let program = std::env::var_os(&variable).map_or(built, PathBuf::from);
     assert!(
         program.is_file(),
-        "{} is not there: `rt check {name}` makes it, or {variable} names another",
+        "{} is not there: `rt run` in crates/{name} makes it, or {variable} names another",
         program.display()
     );
     program

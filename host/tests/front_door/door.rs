@@ -44,7 +44,7 @@ pub struct Door {
 impl Drop for Door {
     fn drop(&mut self) {
         // A test may have left folders that cannot be written.
-        for folder in ["", "target", "target/sheet", "host", "host/target"] {
+        for folder in ["", "target", "target/sheet", "crates/usm_c", "host", "host/target"] {
             if self.clone(folder).is_dir() {
                 set_mode(&self.clone(folder), 0o755);
             }
@@ -105,16 +105,20 @@ impl Door {
         door
     }
 
-    /// `rt` that notes its call, talks as the toolchain does, puts a library in its place and ends so.
+    /// `rt` that notes its call, talks as the toolchain does, keeps its work in `out/` of each crate, puts a library
+    /// in its place and ends so.
     pub fn put_rt(&self, end: &str) {
         let script = format!(
             "echo \"$PWD: rt $*\" >>'{calls}'\n\
              cat >/dev/null\n\
              for crate in records spreads usm_c; do\n\
+                 echo \"rt: chose --jobs 2 for $crate\"\n\
                  echo \"fn $crate::first: proved\"\n\
-                 echo \"rt: $crate proved (1 s)\"\n\
+                 echo \"crate $crate: modules loaded=0 checked=9\"\n\
+                 echo \"logic=proved functions=1\"\n\
+                 mkdir -p \"../$crate/out\" && echo work >\"../$crate/out/kept\"\n\
              done\n\
-             mkdir -p target/staticlib && echo library >target/staticlib/libusm_c.a\n\
+             echo library >out/libusm_c.a\n\
              {end}",
             calls = self.beside("calls").display()
         );
@@ -148,7 +152,7 @@ impl Door {
 
     /// The calls of a clone where all is made anew, by the names of those who are called.
     pub fn called(&self) -> Vec<&'static str> {
-        let rt = format!("{}: rt staticlib usm_c", self.beside("clone").display());
+        let rt = format!("{}: rt lib", self.clone("crates/usm_c").display());
         let name = |call: String| match call.as_str() {
             "cargo " => "cargo",
             call if call == rt => "rt",
@@ -167,7 +171,7 @@ impl Door {
         };
         dated(self.beside("clone"), "1 hour ago");
         for (made, date) in [
-            ("target/staticlib/libusm_c.a", "10 minutes ago"),
+            ("crates/usm_c/out/libusm_c.a", "10 minutes ago"),
             ("host/target/release/usm_sheet", "5 minutes ago"),
         ] {
             if self.clone(made).exists() {

@@ -25,7 +25,7 @@ fn without_the_toolchain_the_tool_runs_as_it_stands() {
     door.put("crates/records/src/lib.rt", "// newer\n");
     let message = format!("sheet: the library is older than its sources, and {NO_RT}{AS_IT_STANDS}\n");
     assert_eq!(door.run(&["check"]), said(0, "<check>", &message));
-    door.remove("target/staticlib/libusm_c.a");
+    door.remove("crates/usm_c/out/libusm_c.a");
     let message = format!("sheet: the library is not made yet, and {NO_RT}{AS_IT_STANDS}\n");
     assert_eq!(door.run(&["check"]), said(0, "<check>", &message));
 }
@@ -86,7 +86,7 @@ fn what_is_refused_is_not_replaced_by_something_older() {
 #[test]
 fn a_toolchain_or_a_cargo_that_made_nothing_is_noticed() {
     let door = Door::fresh("nothing-made");
-    door.put_rt("rm target/staticlib/libusm_c.a");
+    door.put_rt("rm out/libusm_c.a");
     let run = door.run(&["check"]);
     assert_eq!((run.status, run.out.as_str()), (2, ""));
     assert!(run.err.contains("the library could not be made (status 0 of rt)"), "{}", run.err);
@@ -100,7 +100,7 @@ fn a_toolchain_or_a_cargo_that_made_nothing_is_noticed() {
 #[test]
 fn a_clone_that_cannot_be_written_is_said_in_one_line() {
     let shut = |door: &Door| {
-        for folder in ["target/sheet", "target", "host/target", "host", ""] {
+        for folder in ["target/sheet", "target", "crates/usm_c", "host/target", "host", ""] {
             if door.clone(folder).is_dir() {
                 set_mode(&door.clone(folder), 0o555);
             }

@@ -12,7 +12,7 @@ fn the_first_run_says_what_it_does_and_the_second_nothing() {
     let door = Door::fresh("first");
     let first = door.run(&["check"]);
     let proof = door.clone("target/sheet/proof");
-    let crates = ["records", "spreads", "usm_c"].map(|name| format!("sheet: {name} proved (1 s)\n")).concat();
+    let crates = ["records", "spreads", "usm_c"].map(|name| format!("sheet: {name} proved\n")).concat();
     let said = format!(
         "sheet: proving and building the library from {}\n\
          sheet: from nothing this takes some four minutes on two cores; the prover's talk goes to {}\n\
@@ -68,11 +68,12 @@ fn what_changed_is_made_again_and_nothing_else() {
     fs::rename(door.clone("crates/usm_c/src/lib.rt"), door.clone("crates/usm_c/src/other.rt"))
         .expect("moved");
     expect("a file of another name", &["rt", "cargo"]);
-    door.put("crates.txt", "records:\nusm_c: records\n");
+    door.put("crates.txt", "records:\nusm_c staticlib: records\n");
     expect("the list of crates", &["rt", "cargo"]);
     door.put("crates/blocks/src/lib.rt", "// other blocks\n");
     door.put("crates/usm_check/src/lib.rt", "// another program\n");
     door.put("crates/records/must-fail/wrong.edit", "another edit\n");
+    door.put("crates/records/out/kept", "other work\n");
     expect("what the library is not made of", &[]);
     for source in SOURCES {
         door.put(source, "// another source\n");
@@ -80,9 +81,9 @@ fn what_changed_is_made_again_and_nothing_else() {
     }
     OTHERS.into_iter().for_each(|source| door.put(source, "// another source\n"));
     expect("model, kit and tests", &[]);
-    door.put("target/staticlib/libusm_c.a", "another library\n");
+    door.put("crates/usm_c/out/libusm_c.a", "another library\n");
     expect("the library", &["cargo"]);
-    door.remove("target/staticlib/libusm_c.a");
+    door.remove("crates/usm_c/out/libusm_c.a");
     expect("a library that is gone", &["rt", "cargo"]);
     door.remove("host/target/release/usm_sheet");
     expect("a tool that is gone", &["cargo"]);

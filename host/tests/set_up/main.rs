@@ -9,23 +9,23 @@ mod scripts;
 
 use std::fs;
 
-use machine::{ending, Machine, CARGO, PACKAGES};
+use machine::{ending, Machine, CARGO, OK, PACKAGES};
 use scripts::put_script;
 
 const NOT_BEGUN: &str = "0 passed, 1 failed";
-const PARTS: [&str; 5] = ["laws ", "rt fmt --check", "rt ci", "edits ", "rt staticlib usm_c"];
+const PARTS: [&str; 4] = ["laws ", "rt in clone: ci", "rt in usm_c: lib", "edits "];
 
 #[test]
 fn with_all_there_nothing_is_installed_and_everything_counted() {
     let machine = Machine::whole("whole");
     assert_eq!(
         ending(&machine.gate()),
-        ("15 passed, 0 failed", 0, ""),
-        "the layout, 3 proved, 4 edits refused, 6 tested, README's command"
+        ("14 passed, 0 failed", 0, ""),
+        "3 proved, 4 edits refused, 6 tested, README's command"
     );
     assert_eq!(machine.asked(), PARTS);
     fs::remove_file(machine.tool("nproc")).expect("it was there");
-    assert_eq!(ending(&machine.gate()), ("15 passed, 0 failed", 0, ""), "nobody says how many processors");
+    assert_eq!(ending(&machine.gate()), ("14 passed, 0 failed", 0, ""), "nobody says how many processors");
     assert_eq!(machine.asked(), [PARTS, PARTS].concat());
 }
 
@@ -41,7 +41,7 @@ fn without_the_toolchain_one_line_says_what_is_needed() {
 fn root_gets_what_is_missing_installed_before_anything_is_proved() {
     let machine = Machine::without("root", &["cargo", "rustc", "cc", "c++"]);
     let message = format!("x86-cargo: installing {PACKAGES}\n");
-    assert_eq!(ending(&machine.gate()), ("15 passed, 0 failed", 0, message.as_str()));
+    assert_eq!(ending(&machine.gate()), ("14 passed, 0 failed", 0, message.as_str()));
     let install = format!("apt-get install -y --no-install-recommends {PACKAGES}");
     assert_eq!(machine.asked()[..2], ["apt-get update", &install]);
     assert_eq!(machine.asked()[2..], PARTS);
@@ -126,21 +126,26 @@ fn the_last_line_counts_what_failed() {
         (String::from(ending(&run).0), run.status)
     };
     let count = |passed_failed: &str, status: i32| (String::from(passed_failed), status);
-    let laid_out = |then: &str| format!("[ \"$1\" = fmt ] || {{ {then}; }}");
-    let rt = |name: &str, then: &str| failing(name, "rt", &laid_out(then));
-    assert_eq!(failing("layout", "rt", "echo 'rt: src/lib.rt'; exit 1"), count("0 passed, 1 failed", 1));
-    assert_eq!(rt("rt-1", "echo '2 passed, 1 failed'; exit 1"), count("3 passed, 1 failed", 1));
-    assert_eq!(rt("rt-2", "echo 'rt: a bad crates.txt'; exit 2"), count("1 passed, 1 failed", 1));
-    assert_eq!(rt("rt-3", "echo '2 passed, 0 failed'; exit 3"), count("3 passed, 1 failed", 1));
-    assert_eq!(rt("library", "[ \"$1\" = ci ] && echo '2 passed, 0 failed'"), count("7 passed, 1 failed", 1));
+    let rt = |name: &str, then: &str| failing(name, "rt", then);
+    let not_laid_out = "echo 'rt: it NOT PROVED'; echo 'rt: FAILED: it'; echo '0 passed, 1 failed'; exit 1";
+    assert_eq!(rt("layout", not_laid_out), count("0 passed, 1 failed", 1));
+    assert_eq!(rt("rt-1", "echo '2 passed, 1 failed'; exit 1"), count("2 passed, 1 failed", 1));
+    assert_eq!(rt("rt-2", "echo 'rt: a bad crates.txt'; exit 2"), count("0 passed, 1 failed", 1));
+    assert_eq!(rt("rt-3", "echo '2 passed, 0 failed'; exit 3"), count("2 passed, 1 failed", 1));
+    for (bad, failed) in [("; all was done", 0), (", 2 bad; all was done", 2), (", 11 bad; 1 is kept", 11)] {
+        let (passed, status) = if failed == 0 { (14, 0) } else { (3, 1) };
+        let said = format!("[ \"$1\" = lib ] || printf '%s\\n' '{OK}{bad}' '3 passed, 0 failed'");
+        assert_eq!(rt("bad", &said), count(&format!("{passed} passed, {failed} failed"), status), "{bad}");
+    }
+    assert_eq!(rt("library", "[ \"$1\" = ci ] && echo '2 passed, 0 failed'"), count("2 passed, 1 failed", 1));
     let one_fails = CARGO.replace("ok. 2 passed; 0 failed;", "FAILED. 1 passed; 1 failed;");
-    assert_eq!(failing("tests", "cargo", &one_fails), count("11 passed, 3 failed", 1));
+    assert_eq!(failing("tests", "cargo", &one_fails), count("10 passed, 3 failed", 1));
     let machine = Machine::whole("edits");
     put_script(&machine.beside("clone/.ci/edits"), "echo '3 passed, 1 failed'; exit 1");
-    assert_eq!(ending(&machine.gate()), ("7 passed, 1 failed", 1, ""), "an edit that is not refused");
+    assert_eq!(ending(&machine.gate()), ("6 passed, 1 failed", 1, ""), "an edit that is not refused");
     let machine = Machine::whole("second-command");
     put_script(&machine.beside("clone/sheet"), "echo ACCEPT 2 1");
-    assert_eq!(ending(&machine.gate()), ("14 passed, 1 failed", 1, ""));
+    assert_eq!(ending(&machine.gate()), ("13 passed, 1 failed", 1, ""));
 }
 
 const NO_PYTHON: &str = "The Python tests were left out: python3 is not on the path.";
@@ -211,11 +216,11 @@ fn the_tests_of_python_are_counted_where_it_is_there() {
     let machine = Machine::whole("python");
     machine.put("python3", "echo 'test result: ok. 5 passed; 0 failed;'");
     assert!(said(&machine, "The Python tests were left out: there is no library for this machine itself"));
-    fs::create_dir_all(machine.beside("clone/target/staticlib")).expect("a folder");
-    fs::write(machine.beside("clone/target/staticlib/libusm_c.a"), "").expect("a library");
-    assert_eq!(ending(&machine.gate()), ("20 passed, 0 failed", 0, ""));
+    fs::create_dir_all(machine.beside("clone/crates/usm_c/out")).expect("a folder");
+    fs::write(machine.beside("clone/crates/usm_c/out/libusm_c.a"), "").expect("a library");
+    assert_eq!(ending(&machine.gate()), ("19 passed, 0 failed", 0, ""));
     machine.put("python3", "echo 'test result: FAILED. 3 passed; 2 failed;'; exit 1");
-    assert_eq!(ending(&machine.gate()), ("17 passed, 2 failed", 1, ""));
+    assert_eq!(ending(&machine.gate()), ("16 passed, 2 failed", 1, ""));
     machine.put("python3", "exit 1");
-    assert_eq!(ending(&machine.gate()), ("14 passed, 1 failed", 1, ""), "tests that did not even start");
+    assert_eq!(ending(&machine.gate()), ("13 passed, 1 failed", 1, ""), "tests that did not even start");
 }
