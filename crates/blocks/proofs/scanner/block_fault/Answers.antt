@@ -1,5 +1,5 @@
-use Rattle.std.proofs.Common.{◌≡◌, ◌≤◌, sym, ap, ◌∙◌, ◌&&◌, Bool, true, List, ℕ, get_or, arith}
-use Rattle.blocks.specs.Block.{kind_of, count_of, sums_agree, shaped, number_fits}
+use Rattle.std.proofs.Common.{◌≡◌, ◌≤◌, sym, ap, ◌∙◌, ◌&&◌, Bool, true, false, List, ℕ, get_or, arith}
+use Rattle.blocks.specs.Block.{kind_of, count_of, sums_agree, shaped, number_fits, account_fits}
 use Rattle.blocks.specs.File.{may_follow}
 use Rattle.blocks.specs.Steps.Scan.{grown, small_enough}
 use Rattle.blocks.specs.declared.forms.Form.{Form}
@@ -50,7 +50,7 @@ returns-then-not-account_fits c =
     let formed = sym c.well_shaped.ensures ∙ c.if-not-well_shaped.false in
     let p = placed _ _ c.args.seen c.with-next.result _ _ _ _ c.number_fits.ensures c.may_follow.ensures c.with-next.ensures c.in_limits.ensures in
     let e = sym p ∙ c.if-not-number_fits-may_follow.false in
-    let x = sym c.account_fits.ensures ∙ c.if-not-account_fits.true in
+    let x : account_fits c.args.frame.origin c.args.block.now ≡ false = sym c.account_fits.ensures ∙ c.if-not-account_fits.true in
     rw (by_tests c.args.frame c.args.number _ _ c.args.block.now, agree, formed, e, x) c.at_block-then-not-account_fits.ensures
 
 pub returns : goal.returns
@@ -59,5 +59,5 @@ returns c =
     let formed = sym c.well_shaped.ensures ∙ c.if-not-well_shaped.false in
     let p = placed _ _ c.args.seen c.with-next.result _ _ _ _ c.number_fits.ensures c.may_follow.ensures c.with-next.ensures c.in_limits.ensures in
     let e = sym p ∙ c.if-not-number_fits-may_follow.false in
-    let x = sym c.account_fits.ensures ∙ c.if-not-account_fits.false in
+    let x : account_fits c.args.frame.origin c.args.block.now ≡ true = sym c.account_fits.ensures ∙ c.if-not-account_fits.false in
     rw (by_tests c.args.frame c.args.number _ _ c.args.block.now, agree, formed, e, x)
