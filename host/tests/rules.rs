@@ -107,10 +107,10 @@ fn every_link_leads_to_what_it_names() {
 
 #[test]
 fn a_stale_link_is_told() {
-    assert!(stale("docs/RULES.md", "`firstOf`", "../crates/records/specs/Order.antt").is_none());
+    assert!(stale("docs/RULES.md", "`first_of`", "../crates/records/specs/Order.antt").is_none());
     let told =
-        stale("docs/RULES.md", "`firstO`", "../crates/records/specs/Order.antt").expect("a part of a name");
-    assert!(told.ends_with("`firstO` does not stand in that file"), "{told}");
+        stale("docs/RULES.md", "`first_o`", "../crates/records/specs/Order.antt").expect("a part of a name");
+    assert!(told.ends_with("`first_o` does not stand in that file"), "{told}");
     let told = stale("docs/RULES.md", "gone", "../crates/gone.rt").expect("no file");
     assert_eq!(told, "[gone](../crates/gone.rt): there is no such file");
     let legs = "../host/tests/transcript/legs.txt";
