@@ -1,5 +1,5 @@
 #!/usr/bin/env python3
-"""try_edits.py [--jobs N] [EDIT..]: applies each of these must-fail edits, or of those in crates/*/must-fail/wrong-answers,
+"""try_edits.py [--jobs N] [EDIT..]: applies each of these must-fail edits, or of all in crates/*/must-fail,
 to a copy of its crate, which `rt check` must then refuse.
 
 The crates are first proved as they stand, on one copy of the repository, so that what is saved meanwhile does not reach
@@ -33,7 +33,7 @@ from concurrent.futures import ThreadPoolExecutor
 
 TOP = os.path.dirname(os.path.dirname(os.path.realpath(__file__)))
 PARTS = ("src", "specs", "proofs")
-ALL = "crates/*/must-fail/wrong-answers/*.edit"
+ALL = "crates/*/must-fail/*.edit"
 
 
 def stop(why):

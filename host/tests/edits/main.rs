@@ -102,7 +102,7 @@ fn python() -> PathBuf {
 }
 
 fn edit_path(name: &str) -> String {
-    format!("crates/it/must-fail/wrong-answers/{name}.edit")
+    format!("crates/it/must-fail/{name}.edit")
 }
 
 fn expected(said: &[&str], last: &str, status: i32) -> (Vec<String>, String, i32) {
@@ -190,7 +190,7 @@ fn to_try_nothing_is_no_pass() {
         assert_eq!(run.err, format!("edits: {words}\n"));
     };
     let none = Clone::with("none", &[]);
-    nothing(&none, &[], "there is no edit crates/*/must-fail/wrong-answers/*.edit");
+    nothing(&none, &[], "there is no edit crates/*/must-fail/*.edit");
     let clone = Clone::with("not-proved", &[("it", WRONG)]);
     nothing(&clone, &["other.edit"], "there is no edit other.edit");
     clone.put("crates/it/src/lib.rt", "one\nwrong\n");
@@ -212,7 +212,7 @@ fn all_edits_are_tried_by_the_toolchain_in_a_clean_clone() {
     put_script(&clone.beside("path/rt"), "echo rt \"$@\" in crates/it/must-fail/*; exit 1");
     let run = clone.run(".ci/all-edits", &[]);
     let files =
-        ["first.edit", "second.edit", "wrong-answers"].map(|name| format!(" crates/it/must-fail/{name}"));
+        ["first.edit", "second.edit"].map(|name| format!(" crates/it/must-fail/{name}"));
     assert_eq!(
         (run.out, run.err.as_str(), run.status),
         (format!("rt must-fail in{}\n", files.concat()), "", 1)
