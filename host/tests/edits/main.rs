@@ -215,7 +215,7 @@ fn all_edits_are_tried_by_the_toolchain_in_a_clean_clone() {
         ["first.edit", "second.edit"].map(|name| format!(" crates/it/must-fail/{name}"));
     assert_eq!(
         (run.out, run.err.as_str(), run.status),
-        (format!("rt must-fail in{}\n", files.concat()), "", 1)
+        (format!("rt must-fail --anew in{}\n", files.concat()), "", 1)
     );
     assert!(clone.beside(&edit_path("first")).exists(), "the repository itself stays");
 }

@@ -15,7 +15,7 @@ fn the_first_run_says_what_it_does_and_the_second_nothing() {
     let crates = ["records", "spreads", "usm_c"].map(|name| format!("sheet: {name} proved\n")).concat();
     let said = format!(
         "sheet: proving and building the library from {}\n\
-         sheet: from nothing this takes some four minutes on two cores; the prover's talk goes to {}\n\
+         sheet: from nothing this takes some five minutes on two cores; the prover's talk goes to {}\n\
          {crates}sheet: building the tool; this takes some ten seconds\n",
         door.clone("crates").display(),
         proof.display()
