@@ -211,8 +211,7 @@ fn all_edits_are_tried_by_the_toolchain_in_a_clean_clone() {
     );
     put_script(&clone.beside("path/rt"), "echo rt \"$@\" in crates/it/must-fail/*; exit 1");
     let run = clone.run(".ci/all-edits", &[]);
-    let files =
-        ["first.edit", "second.edit"].map(|name| format!(" crates/it/must-fail/{name}"));
+    let files = ["first.edit", "second.edit"].map(|name| format!(" crates/it/must-fail/{name}"));
     assert_eq!(
         (run.out, run.err.as_str(), run.status),
         (format!("rt must-fail --anew in{}\n", files.concat()), "", 1)
