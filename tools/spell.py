@@ -37,6 +37,7 @@ APART = {
 # In one file alone: there port.py gave a lemma the name of a definition.
 IN_FILE = {
     "crates/blocks/proofs/MovedBack.antt": {"form_of": "form_of_lem"},
+    "crates/spreads/proofs/BoxKinds.antt": {"one_of": "one_of_lem"},
 }
 
 # Names that port.py respelled itself: an edit still has the old one.
