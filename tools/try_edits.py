@@ -12,8 +12,8 @@ A line for each edit, with the seconds that it took and, where there is more to 
     NOT REFUSED        the crate is still proved with it
     BAD EDIT           it does not fit the code or a definition, does not compile, or the prover cannot read what it wrote
     A NAME IS MISSING  it is refused only because proof files name what it took away: that says nothing of a contract
-`rt must-fail` judges the edits that stand right in must-fail/ in the same way, but for the last kind, which it lets
-pass. The last line is 'N passed, M failed'; the exit status is 0 where all were refused, 1 where one was not, 2 where
+    REFUSED ONLY BY A LIMIT  the prover gave up: that says nothing of it either
+`rt must-fail` judges the edits in the same way, but for the last two kinds, which it lets pass. The last line is 'N passed, M failed'; the exit status is 0 where all were refused, 1 where one was not, 2 where
 they cannot be tried."""
 
 import argparse
@@ -127,7 +127,7 @@ def unread(line, changed):
 
 
 LIMITS = r"antt ran out of (stack|the (steps|memory) that the check of)|(outgrew the memory limit|stopped at the step limit) \("
-NAMES = r"(note: )?(\./)?proofs/.*(has no field|is not in scope|has no `|was not admitted)"
+NAMES = r"(note: )?(\./)?proofs/.*(has no field|is not in scope|has no `|was not admitted|was rejected, (was|were) not checked)"
 
 
 def judged(status, said, changed, log):
@@ -147,7 +147,7 @@ def judged(status, said, changed, log):
         return False, "NOT REFUSED: the crate is still proved with this edit", ""
     limit = next((it for it in lines if re.search(LIMITS, it)), "")
     if status == 3 and limit:
-        return True, "refused, only by a limit of the prover", limit
+        return False, "REFUSED ONLY BY A LIMIT of the prover", limit
     why = next((it for it in lines if re.search(r"\berror\[[\w-]+\]", it)), log)
     return False, f"BAD EDIT: it did not reach the prover (exit {status})", why
 

@@ -24,7 +24,8 @@ case $(cat src/lib.rt) in
 *torn*) exit 2 ;;
 *unknown*) echo 'src/lib.rt:1:4: error[unknown-name]: cannot find `unknown`'; exit 1 ;;
 *unread*) not './src/lib.rt:1:4: error: `get` is not in scope' ;;
-*nameless*) not './proofs/get/Proof.antt:1:4: error: `returns`: the record has no field `get`' ;;
+*nameless*) not './proofs/get/Proof.antt:1:4: error: `returns`: the record has no field `get`' \
+    './proofs/get/Proof.antt:9:5: error: 1 declaration that depends on `returns`, which was rejected, was not checked' ;;
 *endless*) echo 'antt ran out of the steps that the check of one declaration may take'; exit 3 ;;
 *wrong*) not './proofs/get/Proof.antt:1:4: error: `returns`: the goal does not follow' ;;
 esac
@@ -140,7 +141,7 @@ fn an_edit_that_is_still_proved_or_never_reaches_the_prover_fails() {
     let mut edits: Vec<(&str, &str)> = words.into_iter().zip(texts.iter().map(String::as_str)).collect();
     edits.extend([("harmless", HARMLESS), ("wrong", WRONG)]);
     let said = [
-        "endless: refused, only by a limit of the prover: \
+        "endless: REFUSED ONLY BY A LIMIT of the prover: \
          antt ran out of the steps that the check of one declaration may take",
         "harmless: NOT REFUSED: the crate is still proved with this edit",
         "nameless: A NAME IS MISSING: ./proofs/get/Proof.antt:1:4: error: `returns`: the record has no field `get`",
@@ -150,7 +151,7 @@ fn an_edit_that_is_still_proved_or_never_reaches_the_prover_fails() {
         "unread: BAD EDIT: the prover cannot read it: ./src/lib.rt:1:4: error: `get` is not in scope",
         &format!("wrong: {REFUSED}"),
     ];
-    assert_eq!(Clone::with("proved", &edits).tried(&[]), expected(&said, "2 passed, 5 failed", 1));
+    assert_eq!(Clone::with("proved", &edits).tried(&[]), expected(&said, "1 passed, 6 failed", 1));
 }
 
 #[test]
@@ -211,7 +212,8 @@ fn all_edits_are_tried_by_the_toolchain_in_a_clean_clone() {
     );
     put_script(&clone.beside("path/rt"), "echo rt \"$@\" in crates/it/must-fail/*; exit 1");
     let run = clone.run(".ci/all-edits", &[]);
-    let files = ["first.edit", "second.edit"].map(|name| format!(" crates/it/must-fail/{name}"));
+    let files =
+        ["first.edit", "second.edit"].map(|name| format!(" crates/it/must-fail/{name}"));
     assert_eq!(
         (run.out, run.err.as_str(), run.status),
         (format!("rt must-fail --anew in{}\n", files.concat()), "", 1)

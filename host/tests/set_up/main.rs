@@ -13,19 +13,19 @@ use machine::{ending, Machine, CARGO, OK, PACKAGES};
 use scripts::put_script;
 
 const NOT_BEGUN: &str = "0 passed, 1 failed";
-const PARTS: [&str; 3] = ["laws ", "rt in clone: ci", "rt in usm_c: lib"];
+const PARTS: [&str; 4] = ["laws ", "rt in clone: ci", "rt in usm_c: lib", "edits "];
 
 #[test]
 fn with_all_there_nothing_is_installed_and_everything_counted() {
     let machine = Machine::whole("whole");
     assert_eq!(
         ending(&machine.gate()),
-        ("10 passed, 0 failed", 0, ""),
-        "3 proved, 6 tested, README's command"
+        ("14 passed, 0 failed", 0, ""),
+        "3 proved, 4 edits refused, 6 tested, README's command"
     );
     assert_eq!(machine.asked(), PARTS);
     fs::remove_file(machine.tool("nproc")).expect("it was there");
-    assert_eq!(ending(&machine.gate()), ("10 passed, 0 failed", 0, ""), "nobody says how many processors");
+    assert_eq!(ending(&machine.gate()), ("14 passed, 0 failed", 0, ""), "nobody says how many processors");
     assert_eq!(machine.asked(), [PARTS, PARTS].concat());
 }
 
@@ -41,7 +41,7 @@ fn without_the_toolchain_one_line_says_what_is_needed() {
 fn root_gets_what_is_missing_installed_before_anything_is_proved() {
     let machine = Machine::without("root", &["cargo", "rustc", "cc", "c++"]);
     let message = format!("x86-cargo: installing {PACKAGES}\n");
-    assert_eq!(ending(&machine.gate()), ("10 passed, 0 failed", 0, message.as_str()));
+    assert_eq!(ending(&machine.gate()), ("14 passed, 0 failed", 0, message.as_str()));
     let install = format!("apt-get install -y --no-install-recommends {PACKAGES}");
     assert_eq!(machine.asked()[..2], ["apt-get update", &install]);
     assert_eq!(machine.asked()[2..], PARTS);
@@ -133,28 +133,19 @@ fn the_last_line_counts_what_failed() {
     assert_eq!(rt("rt-2", "echo 'rt: a bad crates.txt'; exit 2"), count("0 passed, 1 failed", 1));
     assert_eq!(rt("rt-3", "echo '2 passed, 0 failed'; exit 3"), count("2 passed, 1 failed", 1));
     for (bad, failed) in [("; all was done", 0), (", 2 bad; all was done", 2), (", 11 bad; 1 is kept", 11)] {
-        let (passed, status) = if failed == 0 { (10, 0) } else { (3, 1) };
+        let (passed, status) = if failed == 0 { (14, 0) } else { (3, 1) };
         let said = format!("[ \"$1\" = lib ] || printf '%s\\n' '{OK}{bad}' '3 passed, 0 failed'");
         assert_eq!(rt("bad", &said), count(&format!("{passed} passed, {failed} failed"), status), "{bad}");
     }
     assert_eq!(rt("library", "[ \"$1\" = ci ] && echo '2 passed, 0 failed'"), count("2 passed, 1 failed", 1));
     let one_fails = CARGO.replace("ok. 2 passed; 0 failed;", "FAILED. 1 passed; 1 failed;");
-    assert_eq!(failing("tests", "cargo", &one_fails), count("6 passed, 3 failed", 1));
-    let missed =
-        "echo 'rt: must-fail it/a.edit: NOT REFUSED: it is still proved'; echo '3 passed, 1 failed'; exit 1";
-    assert_eq!(rt("edits", missed), count("3 passed, 1 failed", 1), "an edit that is not refused");
-    let nameless = "refused, as it must be (only because a proof file names what the edit took away, so this says \
-                    little of the contract: change a value and keep the names): proofs/it/Proof.antt:1:1: error: it";
-    for (edits, bad) in [(1, ""), (2, ", 3 bad")] {
-        let lines = format!("'rt: must-fail it/it.edit: {nameless}' ").repeat(edits);
-        let said =
-            format!("[ \"$1\" = lib ] || printf '%s\\n' {lines} '{OK}{bad}; all' '3 passed, 0 failed'");
-        let failed = edits + if bad.is_empty() { 0 } else { 3 };
-        assert_eq!(rt("nameless", &said), count(&format!("3 passed, {failed} failed"), 1));
-    }
+    assert_eq!(failing("tests", "cargo", &one_fails), count("10 passed, 3 failed", 1));
+    let machine = Machine::whole("edits");
+    put_script(&machine.beside("clone/.ci/edits"), "echo '3 passed, 1 failed'; exit 1");
+    assert_eq!(ending(&machine.gate()), ("6 passed, 1 failed", 1, ""), "an edit that is not refused");
     let machine = Machine::whole("second-command");
     put_script(&machine.beside("clone/sheet"), "echo ACCEPT 2 1");
-    assert_eq!(ending(&machine.gate()), ("9 passed, 1 failed", 1, ""));
+    assert_eq!(ending(&machine.gate()), ("13 passed, 1 failed", 1, ""));
 }
 
 const NO_PYTHON: &str = "The Python tests were left out: python3 is not on the path.";
@@ -227,9 +218,9 @@ fn the_tests_of_python_are_counted_where_it_is_there() {
     assert!(said(&machine, "The Python tests were left out: there is no library for this machine itself"));
     fs::create_dir_all(machine.beside("clone/crates/usm_c/out")).expect("a folder");
     fs::write(machine.beside("clone/crates/usm_c/out/libusm_c.a"), "").expect("a library");
-    assert_eq!(ending(&machine.gate()), ("15 passed, 0 failed", 0, ""));
+    assert_eq!(ending(&machine.gate()), ("19 passed, 0 failed", 0, ""));
     machine.put("python3", "echo 'test result: FAILED. 3 passed; 2 failed;'; exit 1");
-    assert_eq!(ending(&machine.gate()), ("12 passed, 2 failed", 1, ""));
+    assert_eq!(ending(&machine.gate()), ("16 passed, 2 failed", 1, ""));
     machine.put("python3", "exit 1");
-    assert_eq!(ending(&machine.gate()), ("9 passed, 1 failed", 1, ""), "tests that did not even start");
+    assert_eq!(ending(&machine.gate()), ("13 passed, 1 failed", 1, ""), "tests that did not even start");
 }
