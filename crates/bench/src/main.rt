@@ -10,7 +10,8 @@ ghost use Rattle.std.specs.Prelude.{◌≤◌, ◌<◌, length};
 use blocks::BLOCK_BYTES;
 use verdicts::{LINE_BYTES, TABLE_BYTES};
 
-// The standard streams, by their numbers.
+// The standard streams, by their numbers. std's streams would not do the same: their `write_all` tries again what a signal
+// interrupts, `read_exact` does not say how much came before the end, and `read_to_end` needs a heap.
 const STDIN: i32 = 0;
 
 const STDOUT: i32 = 1;
@@ -20,16 +21,14 @@ const LONGEST_INPUT: usize = 131072;
 
 const BLOCKS_AT: usize = 8;
 
-// Where the file that begins at `at` ends.
-fn file_end(input: &[u8], at: usize) -> usize
-    requires { at < length input.now }
-    ensures { (at < result) × (result ≤ length input.now) }
+// How many bytes the first file of the input has.
+fn first_bytes(input: &[u8]) -> usize
+    requires { 0 < length input.now }
+    ensures { (0 < result) × (result ≤ length input.now) }
 {
-    let bytes = BLOCK_BYTES * (records::u16_at(input, at + BLOCKS_AT) as usize);
-    if 0 < bytes {
-        if bytes <= input.len() - at {
-            return at + bytes;
-        }
+    let bytes = BLOCK_BYTES * (records::u16_at(input, BLOCKS_AT) as usize);
+    if 0 < bytes && bytes <= input.len() {
+        return bytes;
     }
     input.len()
 }
@@ -47,13 +46,14 @@ fn print_table(file: &[u8]) {
     io::write_all(STDOUT, &text[..k]);
 }
 
+// The files have lengths of their own, so no `chunks` gives them.
 fn print_all(input: &[u8]) {
-    let mut at: usize = 0;
-    while at < input.len() {
-        let end = file_end(input, at);
-        print_line(&input[at..end]);
-        print_table(&input[at..end]);
-        at = end;
+    let mut rest = input;
+    while !rest.is_empty() {
+        let (file, others) = rest.split_at(first_bytes(rest));
+        print_line(file);
+        print_table(file);
+        rest = others;
     }
 }
 

@@ -1,12 +1,11 @@
 -- A long and a short together, and how much a call can answer.
+use Rattle.std.specs.Prelude.{Result, Ok, Err}
 use Prim.Native.Nat.{ℕ, ◌-◌, ◌≤◌}
 use mathlib.Core.Path.{◌≡◌, refl}
 use mathlib.Core.Bool.{true, false}
 use native.Mathlib.Omega.{arith}
 use lib.IntN.{pos}
 use Rattle.records.specs.Order.{first_of}
-use Rattle.records.specs.declared.refusals.Fault.{Fault}
-use Rattle.records.specs.declared.refusals.Fault.TheVariants.{Nothing, Is}
 use Rattle.binaries.specs.Positions.{offsets, matched_in}
 use Rattle.binaries.specs.Margins.{binary_margin, margin_for, pair_margin}
 use Rattle.binaries.specs.Calls.{binary_answer, single_checks, single_call, pair_checks, pair_call}
@@ -15,9 +14,9 @@ use Rattle.binaries.specs.declared.percentages.Side.{Side}
 use Rattle.binaries.specs.declared.percentages.Side.TheVariants.{Long, Short}
 use Rattle.binaries.specs.declared.positions.Position.{Position}
 use Rattle.binaries.specs.declared.positions.LongPosition.{LongPosition}
-use Rattle.binaries.specs.declared.calls.Required.TheVariants.{Mills}
 use Rattle.binaries.proofs.MarginLaws.{margin_grows, margin_most, long_most, short_most, side_most}
 use Rattle.binaries.proofs.AnswerLaws.{single_clear, pair_clear}
+use Rattle.records.specs.declared.refusals.Refusal.{Refusal}
 
 -- ---- what a pair needs
 
@@ -76,9 +75,9 @@ apart_keeps_both valuation long short o =
 
 -- ---- limits
 
-required_mills : (f : Fault) (m n : ℕ) → binary_answer f m ≡ Mills (pos n) → (f ≡ Nothing) × (m ≡ n)
-required_mills Nothing m n e = (refl, cc)
-required_mills (Is r) m n e = let z : ◌≡◌ {A = ℕ} 0 1 = cc in absurd (omega arith)
+required_mills : (f : Result Unit Refusal) (m n : ℕ) → binary_answer f m ≡ Ok (pos n) → (f ≡ Ok tt) × (m ≡ n)
+required_mills (Ok _) m n e = (refl, cc)
+required_mills (Err r) m n e = let z : ◌≡◌ {A = ℕ} 0 1 = cc in absurd (omega arith)
 
 pub single_most : SingleMost
 unfolding single_call

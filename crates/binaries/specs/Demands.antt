@@ -1,6 +1,6 @@
 -- What is demanded of binaries, of the definitions that the calls' contracts cite; the proofs stand in proofs/PercentageLaws,
 -- TimeLaws, MarginLaws and PairLaws.
-use Rattle.std.specs.Prelude.{◌≡◌, true, false, ℕ, ◌+◌, ◌-◌, ◌*◌, ◌≤◌, leb, pos}
+use Rattle.std.specs.Prelude.{◌≡◌, true, false, ℕ, ◌+◌, ◌-◌, ◌*◌, ◌≤◌, leb, pos, Ok}
 use Rattle.records.specs.Dates.{real_date}
 use Rattle.binaries.specs.Percentages.{tenths_at, row_of}
 use Rattle.binaries.specs.Times.{year_of, month_and_day, same_day, twenty_eighth, year_end, column_of}
@@ -11,7 +11,6 @@ use Rattle.binaries.specs.declared.percentages.Side.{Side}
 use Rattle.binaries.specs.declared.percentages.Side.TheVariants.{Long, Short}
 use Rattle.binaries.specs.declared.positions.Position.{Position}
 use Rattle.binaries.specs.declared.positions.LongPosition.{LongPosition}
-use Rattle.binaries.specs.declared.calls.Required.TheVariants.{Mills}
 
 -- ---- the tables
 
@@ -78,7 +77,7 @@ ApartKeepsBoth = (valuation : ℕ) (long : LongPosition) (short : Position) → 
 -- ---- limits: what is answered is far within a signed number of 64 bits
 
 abbrev pub SingleMost : Type 0
-SingleMost = (side : Side) (spread valuation expiry contracts n : ℕ) → single_call side spread valuation expiry contracts ≡ Mills (pos n) → n ≤ 30000000000
+SingleMost = (side : Side) (spread valuation expiry contracts n : ℕ) → single_call side spread valuation expiry contracts ≡ Ok (pos n) → n ≤ 30000000000
 
 abbrev pub PairMost : Type 0
-PairMost = (valuation : ℕ) (long : LongPosition) (short : Position) (n : ℕ) → pair_call valuation long short ≡ Mills (pos n) → n ≤ 45000000000
+PairMost = (valuation : ℕ) (long : LongPosition) (short : Position) (n : ℕ) → pair_call valuation long short ≡ Ok (pos n) → n ≤ 45000000000

@@ -1,12 +1,11 @@
 -- Calls that show each edge, as one table.
-use Rattle.std.specs.Prelude.{ℕ, ◌≡◌, Bool, true, false, List, [], ◌∷◌, pos}
+use Rattle.std.specs.Prelude.{ℕ, ◌≡◌, Bool, true, false, List, [], ◌∷◌, pos, Result, Ok, Err, ℤ}
 use Rattle.records.specs.Order.{refuse}
 use Rattle.binaries.specs.Calls.{single_call, pair_call}
 use Rattle.binaries.specs.declared.percentages.Side.TheVariants.{Long, Short}
 use Rattle.binaries.specs.declared.positions.Position.{Position}
 use Rattle.binaries.specs.declared.positions.LongPosition.{LongPosition}
-use Rattle.binaries.specs.declared.calls.Required.{Required}
-use Rattle.binaries.specs.declared.calls.Required.TheVariants.{Mills, Refused}
+use Rattle.records.specs.declared.refusals.Refusal.{Refusal}
 
 -- reference obligation, spread, expiry, contracts
 abbrev pub position : ℕ → ℕ → ℕ → ℕ → Position
@@ -16,18 +15,18 @@ position reference spread expiry contracts =
 abbrev pub long_position : Bool → Position → LongPosition
 long_position paid p = record { position = p; paid = paid }
 
-abbrev pub mills : ℕ → Required
-mills n = Mills (pos n)
+abbrev pub mills : ℕ → Result ℤ Refusal
+mills n = Ok (pos n)
 
-abbrev pub refused : ℕ → ℕ → Required
-refused number place = Refused (refuse number 0 place)
+abbrev pub refused : ℕ → ℕ → Result ℤ Refusal
+refused number place = Err (refuse number 0 place)
 
 -- an answer of a call, and what it should be
 pub record Example : Type 0 where
-  pub call : Required
-  pub answer : Required
+  pub call : Result ℤ Refusal
+  pub answer : Result ℤ Refusal
 
-abbrev pub example : Required → Required → Example
+abbrev pub example : Result ℤ Refusal → Result ℤ Refusal → Example
 example call answer = record { call = call; answer = answer }
 
 abbrev pub Shows : Example → Type 0

@@ -1,83 +1,53 @@
 // The two public calls.
-ghost use Rattle.std.specs.Prelude.{◌≡◌};
-ghost use Rattle.records.specs.Order.{first_of, refuse};
-ghost use Rattle.records.specs.declared.refusals.Fault.TheVariants.{Is};
-ghost use Rattle.binaries.specs.Calls.{single_checks, expiry_checks, pair_checks, single_call, pair_call};
+ghost use Rattle.std.specs.Prelude.{◌≡◌, [], ◌∷◌};
+ghost use Rattle.records.specs.Order.{ask, first_of};
+ghost use Rattle.binaries.specs.Calls.{single_checks, pair_checks, single_call, pair_call};
 
 use crate::margins::{margin_of, margin_of_pair};
 use crate::percentages::Side;
-use crate::positions::{LongPosition, Position, good_terms};
-use crate::times::is_date;
-use records::{Fault, Refusal};
-
-// The margin in mills, or why there is none.
-#[derive(Clone, Copy)]
-pub enum Required {
-    Mills(i64),
-    Refused(Refusal),
-}
+use crate::positions::{LongPosition, Position};
+use crate::times::{Date, is_date};
+use records::Refusal;
 
 // Where a refusal stands: a position by itself and the long of a pair, then the short of a pair.
 const LONG_PLACE: usize = 0;
 
 const SHORT_PLACE: usize = 1;
 
-// 4, 'a field or date', of the position at a place.
-fn field_fault(place: usize) -> Fault
-    ensures { result ≡ Is (refuse 4 0 place) }
+// 'a field or date'
+const FIELD: u8 = 4;
+
+// 'expiry before the valuation date'
+const EXPIRED: u8 = 25;
+
+// The refusal, where what is asked does not hold.
+fn ask(holds: bool, number: u8, place: usize) -> Result<(), Refusal>
+    ensures { result ≡ first_of (ask holds number 0 place ∷ []) }
 {
-    Fault::Is(Refusal {
-        number: 4,
+    if holds {
+        return Ok(());
+    }
+    Err(Refusal {
+        number,
         table: 0,
         place,
     })
 }
 
-// 25, 'expiry before the valuation date'.
-fn expired_fault(place: usize) -> Fault
-    ensures { result ≡ Is (refuse 25 0 place) }
+fn single_fault(valuation: u64, position: Position) -> Result<(), Refusal>
+    ensures { result ≡ first_of (single_checks position.spread valuation position.expiry position.contracts) }
 {
-    Fault::Is(Refusal {
-        number: 25,
-        table: 0,
-        place,
-    })
+    ask(is_date(valuation) & position.is_good(), FIELD, LONG_PLACE)?;
+    ask(valuation <= position.expiry, EXPIRED, LONG_PLACE)
 }
 
-fn single_fault(spread: u64, valuation: u64, expiry: u64, contracts: u64) -> Fault
-    ensures { result ≡ first_of (single_checks spread valuation expiry contracts) }
-{
-    if is_date(valuation) & good_terms(spread, expiry, contracts) {
-        if valuation <= expiry {
-            return Fault::Nothing;
-        }
-        return expired_fault(LONG_PLACE);
-    }
-    field_fault(LONG_PLACE)
-}
-
-fn expiries_fault(valuation: u64, long: Position, short: Position) -> Fault
-    ensures { result ≡ first_of (expiry_checks valuation long short) }
-{
-    if long.expiry < valuation {
-        return expired_fault(LONG_PLACE);
-    }
-    if short.expiry < valuation {
-        return expired_fault(SHORT_PLACE);
-    }
-    Fault::Nothing
-}
-
-fn pair_fault(valuation: u64, long: Position, short: Position) -> Fault
+fn pair_fault(valuation: u64, long: Position, short: Position) -> Result<(), Refusal>
     ensures { result ≡ first_of (pair_checks valuation long short) }
 {
-    if is_date(valuation) & good_terms(long.spread, long.expiry, long.contracts) {
-        if good_terms(short.spread, short.expiry, short.contracts) {
-            return expiries_fault(valuation, long, short);
-        }
-        return field_fault(SHORT_PLACE);
-    }
-    field_fault(LONG_PLACE)
+    ask(is_date(valuation) & long.is_good(), FIELD, LONG_PLACE)?;
+    ask(short.is_good(), FIELD, SHORT_PLACE)?;
+    ask(valuation <= long.expiry, EXPIRED, LONG_PLACE)?;
+    ask(valuation <= short.expiry, EXPIRED, SHORT_PLACE)
 }
 
 // The margin of a position by itself.
@@ -87,23 +57,26 @@ pub fn binary_margin(
     valuation: u64,
     expiry: u64,
     contracts: u64,
-) -> Required
+) -> Result<i64, Refusal>
     ensures { result ≡ single_call side spread valuation expiry contracts }
 {
-    match single_fault(spread, valuation, expiry, contracts) {
-        Fault::Is(refusal) => Required::Refused(refusal),
-        Fault::Nothing => {
-            Required::Mills(margin_of(side, spread, valuation, expiry, contracts) as i64)
-        }
-    }
+    // By itself it stands against no other, whatever its obligation.
+    let position = Position {
+        reference: 0,
+        spread,
+        expiry,
+        contracts,
+    };
+    single_fault(valuation, position)?;
+    let date = Date { day: valuation };
+    Ok(margin_of(side, date, position) as i64)
 }
 
 // The margin of a long and a short position together.
-pub fn pair_margin(valuation: u64, long: LongPosition, short: Position) -> Required
+pub fn pair_margin(valuation: u64, long: LongPosition, short: Position) -> Result<i64, Refusal>
     ensures { result ≡ pair_call valuation long short }
 {
-    match pair_fault(valuation, long.position, short) {
-        Fault::Is(refusal) => Required::Refused(refusal),
-        Fault::Nothing => Required::Mills(margin_of_pair(valuation, long, short) as i64),
-    }
+    pair_fault(valuation, long.position, short)?;
+    let date = Date { day: valuation };
+    Ok(margin_of_pair(date, long, short) as i64)
 }

@@ -8,6 +8,6 @@ mod percentages;
 mod positions;
 mod times;
 
-pub use calls::{Required, binary_margin, pair_margin};
+pub use calls::{binary_margin, pair_margin};
 pub use percentages::Side;
 pub use positions::{LongPosition, Position};

@@ -8,7 +8,7 @@ pub enum Side {
     Short,
 }
 
-// In tenths of a percent.
+// In tenths of a percent, each as the circular prints it, though short is twice long in every cell.
 const LONG_TENTHS: [[u16; 4]; 5] = [
     [5, 10, 20, 35],
     [10, 25, 35, 50],
@@ -30,19 +30,13 @@ const SHORT_TENTHS: [[u16; 4]; 5] = [
 pub(crate) fn row_of(spread: u64) -> usize
     ensures { (result ≡ row_of spread) × (result < 5) }
 {
-    if spread < 100 {
-        return 0;
+    match spread {
+        0..=99 => 0,
+        100..=299 => 1,
+        300..=499 => 2,
+        500..=699 => 3,
+        _ => 4,
     }
-    if spread < 300 {
-        return 1;
-    }
-    if spread < 500 {
-        return 2;
-    }
-    if spread < 700 {
-        return 3;
-    }
-    4
 }
 
 pub(crate) fn tenths_at(side: Side, row: usize, column: usize) -> u16

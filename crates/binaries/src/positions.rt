@@ -1,6 +1,6 @@
 // A position in one binary option, and of a long and a short how many contracts are matched.
-ghost use Rattle.std.specs.Prelude.{◌≡◌, min};
-ghost use Rattle.binaries.specs.Positions.{good_fields, offsets, matched_in};
+ghost use Rattle.std.specs.Prelude.{◌≡◌, ◌≤◌, ◌-◌};
+ghost use Rattle.binaries.specs.Positions.{good_position, offsets, matched_in};
 
 use crate::times::is_date;
 use records::MOST_CONTRACTS;
@@ -25,19 +25,26 @@ pub struct LongPosition {
 
 const MOST_SPREAD: u64 = 100000;
 
-// Whether each field is in its range.
-pub(crate) fn good_terms(spread: u64, expiry: u64, contracts: u64) -> bool
-    ensures { result ≡ good_fields spread expiry contracts }
-{
-    (spread <= MOST_SPREAD)
-        & is_date(expiry)
-        & ((1 <= contracts) & (contracts <= MOST_CONTRACTS as u64))
-}
+impl Position {
+    // Whether each field is in its range.
+    pub(crate) fn is_good(self) -> bool
+        ensures { result ≡ good_position self }
+    {
+        (self.spread <= MOST_SPREAD)
+            & is_date(self.expiry)
+            & ((1 <= self.contracts) & (self.contracts <= MOST_CONTRACTS as u64))
+    }
 
-fn smaller(a: u64, b: u64) -> u64
-    ensures { result ≡ min a b }
-{
-    if a < b { a } else { b }
+    // What is left of it without so many contracts.
+    pub(crate) fn less(self, matched: u64) -> Position
+        requires { matched ≤ self.contracts }
+        ensures { result ≡ record self { contracts = self.contracts - matched } }
+    {
+        Position {
+            contracts: self.contracts - matched,
+            ..self
+        }
+    }
 }
 
 // Whether the long stands against the short.
@@ -53,7 +60,7 @@ pub(crate) fn matched_in(long: LongPosition, short: Position) -> u64
     ensures { result ≡ matched_in long short }
 {
     if offsets(long, short) {
-        return smaller(long.position.contracts, short.contracts);
+        return long.position.contracts.min(short.contracts);
     }
     0
 }

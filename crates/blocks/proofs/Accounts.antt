@@ -1,4 +1,5 @@
 -- The statements of specs/Accounts.antt, proved.
+use Rattle.std.specs.Prelude.{Result, Ok, Err}
 use mathlib.Core.Path.{◌≡◌, refl, sym, ap, ◌∙◌}
 use mathlib.Core.Bool.{Bool, true, false, ◌&&◌, cond}
 use mathlib.Core.List.{List, [], ◌∷◌}
@@ -12,7 +13,6 @@ use Rattle.records.specs.Chunks.{chunk_at}
 use Rattle.records.specs.Lists.{All}
 use Rattle.records.specs.Order.{refuse, first_of}
 use Rattle.records.specs.Written.{put_at}
-use Rattle.records.specs.declared.refusals.Fault.TheVariants.{Nothing, Is}
 use Rattle.records.specs.declared.refusals.Refusal.{Refusal}
 use Rattle.records.proofs.ChunkLaws.{all_chunk}
 use Rattle.records.proofs.OrderLaws.{first_then, first_stop}
@@ -27,7 +27,6 @@ use Rattle.blocks.specs.RoundTrips.{Reads}
 use Rattle.blocks.specs.Accounts.{OneAccount, Begins, JoinedRefused, JoinedElsewhere, FormsAlike, MovedAlike}
 use Rattle.blocks.specs.declared.forms.Origin.{Origin}
 use Rattle.blocks.specs.declared.forms.Frame.{Frame}
-use Rattle.blocks.specs.declared.answers.Reading.TheVariants.{Refused}
 use Rattle.blocks.proofs.BlockLaws.{origin_is, number_is}
 use Rattle.blocks.proofs.FileLaws.{Passed, block_passed, whole_file_lem, earlier, length_earlier, blocks_from, blocks_all, blocks_step}
 use Rattle.blocks.proofs.ScanLaws.{by_tests}
@@ -66,11 +65,11 @@ one_account f r =
 -- ---- two files joined
 
 -- what the first fault of the blocks makes the reader answer
-refused_at : (f : List ℕ) (r : Refusal) → whole_file (length f) ≡ true → first_of (blocks_checks (frame_in f) [] (blocks_of f)) ≡ Is r
-    → (h p c : ℕ) → read_call f h p c ≡ Refused r
+refused_at : (f : List ℕ) (r : Refusal) → whole_file (length f) ≡ true → first_of (blocks_checks (frame_in f) [] (blocks_of f)) ≡ Err r
+    → (h p c : ℕ) → read_call f h p c ≡ Err r
 unfolding scan_of
 refused_at f r w e h p c =
-    let s : scan_of f ≡ Refused r = rw e in
+    let s : scan_of f ≡ Err r = rw e in
     read_refused f h p c r (judge_scan f r (sym (scan_whole f w) ∙ s))
 
 -- the checks of a file whose first k blocks are those of one that passes come down to those from block k on
@@ -105,8 +104,8 @@ same_frame one joined n e = rw (e, n)
 
 -- by the tests of a block with right checks
 tests : (h m a : Bool) (i : ℕ) → (h ≡ true → a ≡ true → ⊥)
-    → (cond h (cond m (cond a Nothing (Is (refuse 20 0 i))) (Is (refuse 3 0 i))) (Is (refuse 3 0 i)) ≡ Is (refuse 3 0 i))
-    ⊎ (cond h (cond m (cond a Nothing (Is (refuse 20 0 i))) (Is (refuse 3 0 i))) (Is (refuse 3 0 i)) ≡ Is (refuse 20 0 i))
+    → (◌≡◌ {A = Result (Unit {0}) Refusal} (cond h (cond m (cond a (Ok tt) (Err (refuse 20 0 i))) (Err (refuse 3 0 i))) (Err (refuse 3 0 i))) (Err (refuse 3 0 i)))
+    ⊎ (◌≡◌ {A = Result (Unit {0}) Refusal} (cond h (cond m (cond a (Ok tt) (Err (refuse 20 0 i))) (Err (refuse 3 0 i))) (Err (refuse 3 0 i))) (Err (refuse 20 0 i)))
 tests false m a i n = inl refl
 tests true false a i n = inl refl
 tests true true false i n = inr refl
@@ -114,7 +113,7 @@ tests true true true i n = absurd (n refl refl)
 
 -- a block with right checks, but of another origin
 stranger : (F : Frame) (before : List (List ℕ)) (b : List ℕ) → sums_agree b ≡ true → (origin_of b ≡ F.origin → ⊥)
-    → (first_of (block_checks F before b) ≡ Is (refuse 3 0 (length before))) ⊎ (first_of (block_checks F before b) ≡ Is (refuse 20 0 (length before)))
+    → (first_of (block_checks F before b) ≡ Err (refuse 3 0 (length before))) ⊎ (first_of (block_checks F before b) ≡ Err (refuse 20 0 (length before)))
 unfolding block_checks
 stranger F before b s n =
     let i = length before in
@@ -126,15 +125,15 @@ module _ (one joined : List ℕ) (r : Reads one) (len : length joined ≡ length
   blocks_same : length joined / 512 ≡ length one / 512
   blocks_same = ap (λ (m : ℕ). m / 512) len
 
-  joint_fault : (x : Refusal) → first_of (block_checks (frame_in one) (earlier one k) (chunk_at 512 joined k)) ≡ Is x
-      → (h p c : ℕ) → read_call joined h p c ≡ Refused x
+  joint_fault : (x : Refusal) → first_of (block_checks (frame_in one) (earlier one k) (chunk_at 512 joined k)) ≡ Err x
+      → (h p c : ℕ) → read_call joined h p c ≡ Err x
   unfolding blocks_checks
   joint_fault x e =
       let F = frame_in one in
       let b = chunk_at 512 joined k in
       let frames = same_frame one joined blocks_same (front.1 0 front.0) in
       let up = (from_block F one joined blocks_same k (omega (arith, blocks_same)) front.1 (read_good one r).blocks).1 in
-      let here : first_of (blocks_checks F (earlier one k) (blocks_from joined k)) ≡ Is x =
+      let here : first_of (blocks_checks F (earlier one k) (blocks_from joined k)) ≡ Err x =
       rw (blocks_step joined k hk)
       (first_stop (block_checks F (earlier one k) b) (blocks_checks F (b ∷ earlier one k) (blocks_from joined (k + 1))) x e) in
       refused_at joined x (rw len (read_good one r).whole) (rw frames (up ∙ here))
@@ -174,7 +173,7 @@ joined_elsewhere one joined r w n k front h p c =
     let size = whole_file_lem (length joined) w in
     let cut : blocks_of joined ≡ b ∷ blocks_from joined 1 = sym (blocks_all joined) ∙ blocks_step joined 0 (omega arith) in
     let wrong = wrong_number 0 (length joined / 512) (length one / 512) b ok.number n in
-    let found : first_of (block_checks F [] b) ≡ Is (refuse 3 0 0) =
+    let found : first_of (block_checks F [] b) ≡ Err (refuse 3 0 0) =
     rw (by_tests F 0 (follows [] b) (within_limits (b ∷ [])) b, ok.sums, ok.shape, wrong) in
     refused_at joined (refuse 3 0 0) w (rw cut (first_stop (block_checks F [] b) (blocks_checks F (b ∷ []) (blocks_from joined 1)) (refuse 3 0 0) found)) h p c
 

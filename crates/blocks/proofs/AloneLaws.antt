@@ -1,4 +1,5 @@
 -- What a block by itself is refused with, test by test.
+use Rattle.std.specs.Prelude.{Ok, Err}
 use mathlib.Core.Path.{◌≡◌, ap}
 use mathlib.Core.Bool.{true, false}
 use mathlib.Core.List.{List, [], ◌∷◌}
@@ -11,14 +12,12 @@ use borrow.Author.Tests.{eq-eqb}
 use Rattle.records.specs.Chunks.{chunks}
 use Rattle.records.specs.Order.{refuse, ask, first_of}
 use Rattle.records.specs.declared.refusals.Refusal.{Refusal}
-use Rattle.records.specs.declared.refusals.Fault.TheVariants.{Nothing, Is}
 use Rattle.records.proofs.OrderLaws.{first_then, first_stop}
 use Rattle.blocks.specs.Forms.{named}
 use Rattle.blocks.specs.Block.{origin_of, sums_agree, shaped}
 use Rattle.blocks.specs.File.{blocks_of, tables_of, tables_in, fields_of}
 use Rattle.blocks.specs.Alone.{own_tables, alone_checks, alone_call}
 use Rattle.blocks.specs.Steps.Bounds.{Sized}
-use Rattle.blocks.specs.declared.answers.Alone.TheVariants.{Sound, Refused}
 use Rattle.blocks.proofs.BlockLaws.{shape_is}
 
 -- ---- a block as a file of its own
@@ -39,7 +38,7 @@ shaped_sized b e s = record { size = e; few = (shape_is (origin_of b).form b s).
 
 -- ---- its refusals
 
-pub alone_torn : (b : List ℕ) → eqb (length b) 512 ≡ false → alone_call b ≡ Refused (refuse 1 0 0)
+pub alone_torn : (b : List ℕ) → eqb (length b) 512 ≡ false → alone_call b ≡ Err (refuse 1 0 0)
 unfolding alone_call alone_checks first_of
 alone_torn b e = rw e
 
@@ -47,30 +46,30 @@ module _ (b : List ℕ) (w : length b ≡ 512) where
   whole : eqb (length b) 512 ≡ true
   whole = eq-eqb (length b) 512 w
 
-  pub alone_2 : sums_agree b ≡ false → alone_call b ≡ Refused (refuse 2 0 0)
+  pub alone_2 : sums_agree b ≡ false → alone_call b ≡ Err (refuse 2 0 0)
   unfolding alone_call alone_checks first_of
   alone_2 e = rw (whole, e)
 
   module _ (s : sums_agree b ≡ true) where
-    pub alone_3 : shaped (origin_of b).form b ≡ false → alone_call b ≡ Refused (refuse 3 0 0)
+    pub alone_3 : shaped (origin_of b).form b ≡ false → alone_call b ≡ Err (refuse 3 0 0)
     unfolding alone_call alone_checks first_of
     alone_3 e = rw (whole, s, e)
 
     module _ (h : shaped (origin_of b).form b ≡ true) where
-      pub alone_4 : (r : Refusal) → first_of (fields_of (own_tables b)) ≡ Is r → alone_call b ≡ Refused r
+      pub alone_4 : (r : Refusal) → first_of (fields_of (own_tables b)) ≡ Err r → alone_call b ≡ Err r
       unfolding alone_call alone_checks first_of
       alone_4 r e =
           let last = ask (named (origin_of b).form (origin_of b).account) 20 0 0 ∷ [] in
           rw (whole, s, h, first_stop (fields_of (own_tables b)) last r e)
 
-      module _ (f : first_of (fields_of (own_tables b)) ≡ Nothing) where
-        pub alone_20 : named (origin_of b).form (origin_of b).account ≡ false → alone_call b ≡ Refused (refuse 20 0 0)
+      module _ (f : first_of (fields_of (own_tables b)) ≡ Ok tt) where
+        pub alone_20 : named (origin_of b).form (origin_of b).account ≡ false → alone_call b ≡ Err (refuse 20 0 0)
         unfolding alone_call alone_checks first_of
         alone_20 e =
             let last = ask (named (origin_of b).form (origin_of b).account) 20 0 0 ∷ [] in
             rw (whole, s, h, first_then (fields_of (own_tables b)) last f, e)
 
-        pub alone_sound : named (origin_of b).form (origin_of b).account ≡ true → alone_call b ≡ Sound (origin_of b)
+        pub alone_sound : named (origin_of b).form (origin_of b).account ≡ true → alone_call b ≡ Ok (origin_of b)
         unfolding alone_call alone_checks first_of
         alone_sound e =
             let last = ask (named (origin_of b).form (origin_of b).account) 20 0 0 ∷ [] in

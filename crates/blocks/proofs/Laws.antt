@@ -13,7 +13,7 @@ pub use Rattle.blocks.proofs.FlatLaws.{length_file}
 -- what reader, writer and moves answer
 pub use Rattle.blocks.proofs.ReadLaws.{TableBytes, scanned_good, scanned_refused, scanned_blocks, scanned_bytes, copied_room}
 pub use Rattle.blocks.proofs.WriteLaws.{some_not_empty, file_bytes_lem, write_done}
-pub use Rattle.blocks.proofs.MoveLaws.{move_wrote}
+pub use Rattle.blocks.proofs.MoveLaws.{move_wrote, same_form_is}
 -- round trips, and what a form leaves alone
 pub use Rattle.blocks.proofs.WrittenThenRead.{written_reads_back}
 pub use Rattle.blocks.proofs.ReadThenWritten.{read_writes_back}

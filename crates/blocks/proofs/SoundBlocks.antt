@@ -1,4 +1,5 @@
 -- Blocks that are sound by themselves: what they are, and that every block of a file that the reader takes is one.
+use Rattle.std.specs.Prelude.{Result, Ok, Err}
 use mathlib.Core.Path.{◌≡◌, refl, ap, ◌∙◌}
 use mathlib.Core.Bool.{Bool, true, false, cond}
 use mathlib.Core.List.{List, [], ◌∷◌}
@@ -11,8 +12,6 @@ use Rattle.records.specs.Lists.{All}
 use Rattle.records.specs.Order.{Check, ask, first_of, ask_each}
 use Rattle.records.specs.Tables.{good_record, table_number, field_checks, fields_checks}
 use Rattle.records.specs.declared.refusals.Refusal.{Refusal}
-use Rattle.records.specs.declared.refusals.Fault.{Fault}
-use Rattle.records.specs.declared.refusals.Fault.TheVariants.{Nothing, Is}
 use Rattle.records.specs.declared.tables.Kind.{Kind}
 use Rattle.records.specs.declared.tables.Kind.TheVariants.{Holdings, Placement, Claims}
 use Rattle.records.proofs.ChunkLaws.{chunks_whole}
@@ -27,7 +26,6 @@ use Rattle.blocks.specs.RoundTrips.{Reads}
 use Rattle.blocks.specs.Demands.{ReadAreSound}
 use Rattle.blocks.specs.declared.forms.Origin.{Origin}
 use Rattle.blocks.specs.declared.forms.Frame.{Frame}
-use Rattle.blocks.specs.declared.answers.Alone.TheVariants.{Sound, Refused}
 use Rattle.blocks.proofs.BlockLaws.{account_is, origin_is}
 use Rattle.blocks.proofs.FileLaws.{Passed, block_passed, whole_file_lem}
 use Rattle.blocks.proofs.GoodBlocks.{read_both, read_good}
@@ -39,12 +37,12 @@ use Rattle.blocks.proofs.GoodFields.{GoodRecords, pass_good, good_pass, table_of
 abbrev Numbered : List Check → Type 0
 Numbered cs = All (λ c. 1 ≤ c.refusal.number) cs
 
-first_numbered : (cs : List Check) → Numbered cs → (r : Refusal) → first_of cs ≡ Is r → 1 ≤ r.number
+first_numbered : (cs : List Check) → Numbered cs → (r : Refusal) → first_of cs ≡ Err r → 1 ≤ r.number
 unfolding first_of
 first_numbered [] a r e = absurd (let z : ◌≡◌ {A = ℕ} 0 1 = cc in omega arith)
 first_numbered (c ∷ cs) a r e = go c.holds e (first_numbered cs a.1 r)
   where
-    go : (b : Bool) → cond b (first_of cs) (Is c.refusal) ≡ Is r → (first_of cs ≡ Is r → 1 ≤ r.number) → 1 ≤ r.number
+    go : (b : Bool) → cond b (first_of cs) (Err c.refusal) ≡ Err r → (first_of cs ≡ Err r → 1 ≤ r.number) → 1 ≤ r.number
     go true q f = f q
     go false q f = let z : c.refusal.number ≡ r.number = cc in omega (arith, a.0, z)
 
@@ -66,13 +64,13 @@ alone_numbered b =
     (omega arith, (omega arith, (omega arith, all_append numbered (fields_of t) _ fields (omega arith, tt))))
 
 -- what is not sound by itself has a number
-pub refused_numbered : (b : List ℕ) (r : Refusal) → alone_call b ≡ Refused r → 1 ≤ r.number
+pub refused_numbered : (b : List ℕ) (r : Refusal) → alone_call b ≡ Err r → 1 ≤ r.number
 unfolding alone_call
 refused_numbered b r e = go (first_of (alone_checks b)) refl e
   where
-    go : (f : Fault) → first_of (alone_checks b) ≡ f → alone_answer f (origin_of b) ≡ Refused r → 1 ≤ r.number
-    go Nothing q z = absurd (let y : ◌≡◌ {A = ℕ} 0 1 = cc in omega arith)
-    go (Is x) q z =
+    go : (f : Result Unit Refusal) → first_of (alone_checks b) ≡ f → alone_answer f (origin_of b) ≡ Err r → 1 ≤ r.number
+    go (Ok _) q z = absurd (let y : ◌≡◌ {A = ℕ} 0 1 = cc in omega arith)
+    go (Err x) q z =
         let y : x.number ≡ r.number = cc in
         omega (arith, y, first_numbered (alone_checks b) (alone_numbered b) x q)
 
@@ -85,7 +83,7 @@ pub record SoundAlone (b : List ℕ) : Type 0 where
   pub fields : Pass (fields_of (own_tables b))
   pub account : named (origin_of b).form (origin_of b).account ≡ true
 
-pub sound_is : (b : List ℕ) → first_of (alone_checks b) ≡ Nothing → SoundAlone b
+pub sound_is : (b : List ℕ) → first_of (alone_checks b) ≡ Ok tt → SoundAlone b
 unfolding alone_checks
 sound_is b e =
     let p = clear (alone_checks b) e in
@@ -99,7 +97,7 @@ sound_is b e =
       account = (pass_right fields last p.1.1.1).0;
     }
 
-pub is_sound : (b : List ℕ) → SoundAlone b → alone_call b ≡ Sound (origin_of b)
+pub is_sound : (b : List ℕ) → SoundAlone b → alone_call b ≡ Ok (origin_of b)
 is_sound b s = alone_sound b s.size s.sums s.shape (unclear (fields_of (own_tables b)) s.fields) s.account
 
 pub sound_sized : (b : List ℕ) → SoundAlone b → Sized b
@@ -147,4 +145,4 @@ file_sound f r =
     (λ kind. good_parts kind bs good.sized (rw (table_of_lem kind bs) at (pass_good (tables_in f) (read_both f r).1 kind)))
 
 pub read_are_sound : ReadAreSound
-read_are_sound f r = all_map (blocks_of f) (λ b s. is_sound b s.0 ∙ ap Sound s.1) (file_sound f r)
+read_are_sound f r = all_map (blocks_of f) (λ b s. is_sound b s.0 ∙ ap Ok s.1) (file_sound f r)

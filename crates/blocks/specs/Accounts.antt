@@ -1,6 +1,6 @@
 -- Request [6]: what an account's number on every block is for, and what a form leaves alone. The statements; their proofs stand in
 -- proofs/Accounts.antt.
-use Rattle.std.specs.Prelude.{ℕ, ◌/◌, ◌≤◌, ◌<◌, ◌≡◌, true, List, ◌⊎◌, length, take}
+use Rattle.std.specs.Prelude.{ℕ, ◌/◌, ◌≤◌, ◌<◌, ◌≡◌, true, List, ◌⊎◌, length, take, Ok, Err}
 use Rattle.records.specs.Bytes.{AllBytes}
 use Rattle.records.specs.Chunks.{chunk_at}
 use Rattle.records.specs.Lists.{All}
@@ -16,8 +16,6 @@ use Rattle.blocks.specs.Moves.{move_call}
 use Rattle.blocks.specs.RoundTrips.{Writes, Reads}
 use Rattle.blocks.specs.declared.forms.Form.{Form}
 use Rattle.blocks.specs.declared.forms.Origin.{Origin}
-use Rattle.blocks.specs.declared.answers.Reading.TheVariants.{Refused}
-use Rattle.blocks.specs.declared.answers.Writing.TheVariants.{Wrote}
 
 -- ---- 'A mail tool joined two accounts' blocks.'
 
@@ -41,14 +39,14 @@ JoinedRefused =
     (one other joined : List ℕ) → Reads one → Reads other → (origin_in one ≡ origin_in other → ⊥)
     → length joined ≡ length one
     → (k j : ℕ) → Begins k joined one → k < length joined / block_bytes → j < length other / block_bytes → chunk_at block_bytes joined k ≡ chunk_at block_bytes other j
-    → (h p c : ℕ) → (read_call joined h p c ≡ Refused (refuse 3 0 k)) ⊎ (read_call joined h p c ≡ Refused (refuse 20 0 k))
+    → (h p c : ℕ) → (read_call joined h p c ≡ Err (refuse 3 0 k)) ⊎ (read_call joined h p c ≡ Err (refuse 20 0 k))
 
 -- in more blocks than the first had, or fewer, at once: each block says how many there are
 abbrev pub JoinedElsewhere : Type 0
 JoinedElsewhere =
     (one joined : List ℕ) → Reads one → whole_file (length joined) ≡ true → (length joined / block_bytes ≡ length one / block_bytes → ⊥)
     → (k : ℕ) → Begins k joined one
-    → (h p c : ℕ) → read_call joined h p c ≡ Refused (refuse 3 0 0)
+    → (h p c : ℕ) → read_call joined h p c ≡ Err (refuse 3 0 0)
 
 -- ---- 'all else as before'
 
@@ -59,6 +57,6 @@ FormsAlike = (o q : Origin) (t : Tables) → Writes o t → Writes q t → table
 -- a file that is moved is taken by the reader, with the same tables, in as many bytes, in the form and of the account that it was moved to
 abbrev pub MovedAlike : Type 0
 MovedAlike =
-    (from : Form) (to : Origin) (file out : List ℕ) (n : ℕ) → AllBytes file → move_call from to file (length out) ≡ Wrote n
-    → (let moved = take n (left_after (has_written (Wrote n)) (file_of to (tables_in file)) out) in
+    (from : Form) (to : Origin) (file out : List ℕ) (n : ℕ) → AllBytes file → move_call from to file (length out) ≡ Ok n
+    → (let moved = take n (left_after (has_written (Ok n)) (file_of to (tables_in file)) out) in
     Reads moved × (tables_in moved ≡ tables_in file) × (origin_in moved ≡ settled to) × (n ≡ length file))

@@ -1,16 +1,13 @@
 -- Request [10], 'Salvage a damaged file': a block judged by itself, 'were numbering (bytes 6-9), order, short-block and limit rules
 -- set aside'.
-use Rattle.std.specs.Prelude.{List, [], ◌∷◌, ◌++◌, ℕ, eqb, length}
+use Rattle.std.specs.Prelude.{List, [], ◌∷◌, ◌++◌, ℕ, eqb, length, Result, Ok, Err}
 use Rattle.records.specs.Order.{Check, ask, first_of}
 use Rattle.blocks.specs.Sizes.{block_bytes}
-use Rattle.records.specs.declared.refusals.Fault.{Fault}
-use Rattle.records.specs.declared.refusals.Fault.TheVariants.{Nothing, Is}
 use Rattle.blocks.specs.Forms.{named}
 use Rattle.blocks.specs.Block.{origin_of, sums_agree, shaped}
 use Rattle.blocks.specs.File.{Tables, tables_of, fields_of}
 use Rattle.blocks.specs.declared.forms.Origin.{Origin}
-use Rattle.blocks.specs.declared.answers.Alone.{Alone}
-use Rattle.blocks.specs.declared.answers.Alone.TheVariants.{Sound, Refused}
+use Rattle.records.specs.declared.refusals.Refusal.{Refusal}
 
 -- the records of a block by itself: one table has them, the others have none
 abbrev pub own_tables : List ℕ → Tables
@@ -27,9 +24,9 @@ alone_checks b =
     ++ (ask (named (origin_of b).form (origin_of b).account) 20 0 0 ∷ []))
 
 -- the first refusal, or the form and the account that the block says
-abbrev pub alone_answer : Fault → Origin → Alone
-alone_answer Nothing o = Sound o
-alone_answer (Is r) o = Refused r
+abbrev pub alone_answer : Result Unit Refusal → Origin → Result Origin Refusal
+alone_answer (Ok _) o = Ok o
+alone_answer (Err r) o = Err r
 
-unfoldable pub alone_call : List ℕ → Alone
+unfoldable pub alone_call : List ℕ → Result Origin Refusal
 alone_call b = alone_answer (first_of (alone_checks b)) (origin_of b)

@@ -1,9 +1,9 @@
 // A block's bytes outside its records and checks: 0-15, unused places, 496-507.
-ghost use Rattle.std.specs.Prelude.{◌≡◌, ◌≤◌, length};
+ghost use Rattle.std.specs.Prelude.{◌≡◌, ◌≤◌, ◌/◌, length};
 ghost use Rattle.blocks.specs.Block.{account_of, form_of, origin_of, head_fits, tail_fits, shaped, number_fits, account_fits, head_of, tail_of};
-ghost use Rattle.blocks.specs.File.{counted_as, records_as};
+ghost use Rattle.blocks.specs.File.{blocks_of, counted_as, records_as};
 
-use crate::bytes::{all_zero, equal};
+use crate::bytes::all_zero;
 use crate::forms::{Form, Frame, Origin, is_named, kept_in, mark_of};
 use records::{Kind, RECORD_BYTES};
 
@@ -47,9 +47,9 @@ pub(crate) fn head_bytes(frame: Frame, kind: Kind, count: u8, number: u16) -> [u
     ensures { result ≡ head_of frame kind count number }
 {
     let origin = frame.origin;
-    let form = origin.form;
-    let blocks = frame.blocks;
-    let mark = mark_of(form);
+    let mark = mark_of(origin.form);
+    let number = number.to_le_bytes();
+    let blocks = frame.blocks.to_le_bytes();
     [
         mark[0],
         mark[1],
@@ -57,10 +57,10 @@ pub(crate) fn head_bytes(frame: Frame, kind: Kind, count: u8, number: u16) -> [u
         mark[3],
         records::table_number(kind),
         count,
-        (number % 256) as u8,
-        (number / 256) as u8,
-        (blocks % 256) as u8,
-        (blocks / 256) as u8,
+        number[0],
+        number[1],
+        blocks[0],
+        blocks[1],
         0,
         0,
         0,
@@ -74,58 +74,43 @@ pub(crate) fn head_bytes(frame: Frame, kind: Kind, count: u8, number: u16) -> [u
 pub(crate) fn tail_bytes(account: u64) -> [u8; 12]
     ensures { result ≡ tail_of account }
 {
-    let a1 = account / 256;
-    let a2 = a1 / 256;
-    let a3 = a2 / 256;
-    let a4 = a3 / 256;
-    let a5 = a4 / 256;
-    let a6 = a5 / 256;
-    let a7 = a6 / 256;
-    [
-        (account % 256) as u8,
-        (a1 % 256) as u8,
-        (a2 % 256) as u8,
-        (a3 % 256) as u8,
-        (a4 % 256) as u8,
-        (a5 % 256) as u8,
-        (a6 % 256) as u8,
-        a7 as u8,
-        0,
-        0,
-        0,
-        0,
-    ]
+    let mut tail = [0; 12];
+    tail[..8].copy_from_slice(&account.to_le_bytes());
+    tail
 }
 
 // ---- what the reader finds there
 
+// A file's blocks, where they stand. Bytes past the last whole one belong to none.
+pub(crate) fn blocks_of(file: &[u8]) -> &[[u8; BLOCK_BYTES]]
+    ensures value { result.now ≡ blocks_of file.now }
+    ensures count { length result.now ≡ length file.now / 512 }
+{
+    let (blocks, _) = file.as_chunks();
+    blocks
+}
+
 // The account's number in bytes 496 to 503, as far as the form keeps one.
-fn account_of(form: Form, block: &[u8]) -> u64
-    requires { length block.now ≡ 512 }
+fn account_of(form: Form, block: &[u8; BLOCK_BYTES]) -> u64
     ensures { result ≡ account_of form block.now }
 {
-    let a = records::u16_at(block, TAIL_AT) as u64;
-    let b = records::u16_at(block, TAIL_AT + 2) as u64;
-    let c = records::u16_at(block, TAIL_AT + 4) as u64;
-    let d = records::u16_at(block, TAIL_AT + 6) as u64;
-    kept_in(form, a + 65536 * (b + 65536 * (c + 65536 * d)))
+    let bytes = block[TAIL_AT..].first_chunk().unwrap();
+    kept_in(form, u64::from_le_bytes(*bytes))
 }
 
 // A block's form by its mark.
-fn form_of(block: &[u8]) -> Form
-    requires { length block.now ≡ 512 }
+fn form_of(block: &[u8; BLOCK_BYTES]) -> Form
     ensures { result ≡ form_of block.now }
 {
     let mark = mark_of(Form::New);
-    if equal(&block[0..MARK_BYTES], &mark) {
+    if block[..MARK_BYTES] == mark[..] {
         Form::New
     } else {
         Form::Old
     }
 }
 
-pub(crate) fn origin_of(block: &[u8]) -> Origin
-    requires { length block.now ≡ 512 }
+pub(crate) fn origin_of(block: &[u8; BLOCK_BYTES]) -> Origin
     ensures { result ≡ origin_of block.now }
 {
     let form = form_of(block);
@@ -144,29 +129,24 @@ pub(crate) fn counted_as(table: Kind, kind: u8, count: u8) -> usize
     }
 }
 
-// How many bytes of records of a kind a block has. Where it counts more than it has room for, its records
-// end with it.
-pub(crate) fn bytes_as(kind: Kind, block: &[u8]) -> usize
-    requires { length block.now ≡ 512 }
-    ensures { (result ≡ length (records_as kind block.now)) × (result ≤ 496) }
+// A block's records of a kind. Where it counts more than it has room for, its records end with it.
+pub(crate) fn records_as(kind: Kind, block: &[u8; BLOCK_BYTES]) -> &[u8]
+    ensures value { result.now ≡ records_as kind block.now }
+    ensures size { length result.now ≤ 496 }
 {
     let count = counted_as(kind, block[KIND_AT], block[COUNT_AT]);
-    if count <= FULL as usize {
-        RECORD_BYTES * count
-    } else {
-        BLOCK_BYTES - RECORDS_AT
-    }
+    let bytes = (RECORD_BYTES * count).min(BLOCK_BYTES - RECORDS_AT);
+    &block[RECORDS_AT..RECORDS_AT + bytes]
 }
 
 // Whether bytes 0 to 5 and 10 to 15 are those of a block of this form.
-fn head_fits(form: Form, block: &[u8]) -> bool
-    requires { length block.now ≡ 512 }
+fn head_fits(form: Form, block: &[u8; BLOCK_BYTES]) -> bool
     ensures { result ≡ head_fits form block.now }
 {
     let mark = mark_of(form);
     let kind = block[KIND_AT];
     let count = block[COUNT_AT];
-    equal(&block[0..MARK_BYTES], &mark)
+    (block[..MARK_BYTES] == mark[..])
         & ((1 <= kind) & (kind <= 3))
         & ((1 <= count) & (count <= FULL))
         & all_zero(&block[10..RECORDS_AT])
@@ -174,8 +154,7 @@ fn head_fits(form: Form, block: &[u8]) -> bool
 
 // Whether bytes 496 to 507 are an account's number, as far as the form keeps one, and zeros: the number that
 // stands there is the one that is kept.
-fn tail_fits(form: Form, block: &[u8]) -> bool
-    requires { length block.now ≡ 512 }
+fn tail_fits(form: Form, block: &[u8; BLOCK_BYTES]) -> bool
     ensures { result ≡ tail_fits form block.now }
 {
     let account = account_of(Form::New, block);
@@ -183,8 +162,7 @@ fn tail_fits(form: Form, block: &[u8]) -> bool
 }
 
 // Whether all but numbering, records and checks is as it should be in a block of this form.
-pub(crate) fn well_shaped(form: Form, block: &[u8]) -> bool
-    requires { length block.now ≡ 512 }
+pub(crate) fn well_shaped(form: Form, block: &[u8; BLOCK_BYTES]) -> bool
     ensures { result ≡ shaped form block.now }
 {
     if head_fits(form, block) {
@@ -195,16 +173,14 @@ pub(crate) fn well_shaped(form: Form, block: &[u8]) -> bool
 }
 
 // Whether bytes 6 to 9 say that this is block `number` of so many.
-pub(crate) fn number_fits(number: u16, blocks: u16, block: &[u8]) -> bool
-    requires { length block.now ≡ 512 }
+pub(crate) fn number_fits(number: u16, blocks: u16, block: &[u8; BLOCK_BYTES]) -> bool
     ensures { result ≡ number_fits number blocks block.now }
 {
     (records::u16_at(block, 6) == number) & (records::u16_at(block, 8) == blocks)
 }
 
 // Whether the account is the one given, and not zero in the new form.
-pub(crate) fn account_fits(origin: Origin, block: &[u8]) -> bool
-    requires { length block.now ≡ 512 }
+pub(crate) fn account_fits(origin: Origin, block: &[u8; BLOCK_BYTES]) -> bool
     ensures { result ≡ account_fits origin block.now }
 {
     let form = origin.form;

@@ -14,7 +14,6 @@ use Rattle.records.specs.Chunks.{chunk_at}
 use Rattle.records.specs.Legs.{leg_fields, leg_of, is_paid, in_range, good_leg}
 use Rattle.records.specs.Tables.{good_record, good_unpaid}
 use Rattle.records.specs.Within.{within}
-use Rattle.records.specs.Written.{put_at}
 use Rattle.records.specs.declared.legs.Leg.{Leg}
 use Rattle.records.specs.declared.tables.Kind.TheVariants.{Holdings}
 use Rattle.records.proofs.ChunkLaws.{record_size}
@@ -24,18 +23,15 @@ use Rattle.fills.specs.Fills.{action_at, action_of, plain_of, fill_leg, good_fil
 use Rattle.fills.specs.Rows.{unmarked, held_of, opened, closed}
 use Rattle.fills.specs.Steps.Links.{leg_in_play}
 use Rattle.fills.specs.Played.{open_number, close_number, fill_number, number_over, rows_after}
-use Rattle.fills.proofs.PartLaws.{put_whole}
 
 pub action_is : (xs : List ℕ) (i : ℕ) → get_or xs (32 * i + action_at) 0 ≡ action_of (chunk_at 32 xs i)
 unfolding le_at
 action_is xs i = rw (get_or-take 32 (drop (32 * i) xs) action_at 0 (omega arith), get_or-drop (32 * i) xs action_at 0) (omega arith)
 
--- a part copied over as many bytes, with the action's byte set to 0
-pub plain_is : (d part out : List ℕ) → length d ≡ length part → action_at < length part → out ≡ put_at d 0 part → set out action_at 0 ≡ plain_of part
+-- a part copied, with the action's byte set to 0
+pub plain_is : (part out : List ℕ) → action_at < length part → out ≡ part → set out action_at 0 ≡ plain_of part
 unfolding plain_of
-plain_is d part out e h o =
-    let w : put_at d 0 part ≡ part = put_whole d part (omega arith) in
-    rw (o, w) (put_one part action_at 0 h)
+plain_is part out h o = rw o (put_one part action_at 0 h)
 
 -- ---- a good record
 

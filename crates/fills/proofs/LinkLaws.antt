@@ -1,7 +1,7 @@
 -- Links: where they lead to, also after a record is linked at a free one, or is left out.
-use Prim.Native.Nat.{ℕ, suc, ◌+◌, ◌<◌}
+use Prim.Native.Nat.{ℕ, suc, ◌+◌, ◌-◌, ◌<◌}
 use mathlib.Core.Path.{◌≡◌, refl, sym, ap, ◌∙◌}
-use mathlib.Core.Bool.{true}
+use mathlib.Core.Bool.{Bool, true, false, false≢true}
 use mathlib.Core.List.{List}
 use native.Mathlib.Decide.{ℕ_discrete}
 use native.Mathlib.Omega.{arith}
@@ -10,7 +10,7 @@ use lib.Seq.{get_or-set_same, get_or-set_other}
 use Rattle.records.specs.Lines.{same_line_side}
 use Rattle.records.specs.declared.legs.Leg.{Leg}
 use Rattle.records.proofs.LineLaws.{same?}
-use Rattle.fills.specs.Steps.Links.{bucket_of, Rising, Path, Leads}
+use Rattle.fills.specs.Steps.Links.{bucket_of, Rising, Path, Leads, Ended}
 use Rattle.fills.specs.Steps.Links as links-of
 
 -- legs of one line and side are in one bucket
@@ -129,3 +129,41 @@ module _ (links : List ℕ) (j at : ℕ) (s : get_or links at 0 ≡ suc j) (smal
             (r.0, omega (arith, r.1)))
         | no m ↦ rising l i (sym (get_or-set_other links at l (get_or links (1024 + j) 0) 0 m) ∙ t)
       ]
+
+-- ---- the search from link l, at link `here`
+
+-- where the links lead from here they lead from l; and a row to which they lead from l has not been passed
+pub record Searching (row : ℕ → Bool) (links : List ℕ) (l here : ℕ) : Type 0 where
+  pub led : (e : ℕ) → Path links here e → Path links l e
+  pub ahead : (i : ℕ) → Leads links l i → row i ≡ true → Leads links here i
+
+pub searching_none : (row : ℕ → Bool) (links : List ℕ) {l here : ℕ} → here ≡ l → Searching row links l here
+searching_none row links e = record { led = λ end p. rw (← e) p; ahead = λ i d t. rw e d }
+
+module _ {row : ℕ → Bool} {links : List ℕ} {l here : ℕ} (s : Searching row links l here) where
+  pub search_free : get_or links here 0 ≡ 0 → Ended row links l here
+  search_free z =
+      record {
+        path = s.led here (links-of.stop refl);
+        found = λ j t. absurd (omega (arith, z, t));
+        none = λ f k d t. leads_none k (s.ahead k d t) f;
+      }
+
+  module _ (n : get_or links here 0 ≡ 0 → ⊥) where
+    pub linked : get_or links here 0 ≡ suc (get_or links here 0 - 1)
+    linked = omega arith
+
+    pub search_found : row (get_or links here 0 - 1) ≡ true → Ended row links l here
+    search_found r =
+        record {
+          path = s.led here (links-of.stop refl);
+          found = λ i t. (let same : i ≡ get_or links here 0 - 1 = omega arith in ap row same ∙ r);
+          none = λ f. absurd (n f);
+        }
+
+    pub search_on : row (get_or links here 0 - 1) ≡ false → Searching row links l (1024 + (get_or links here 0 - 1))
+    search_on r =
+        record {
+          led = λ e p. s.led e (links-of.on _ linked p);
+          ahead = λ k d t. leads_on _ k linked (λ q. false≢true (sym r ∙ ap row (sym q) ∙ t)) (s.ahead k d t);
+        }

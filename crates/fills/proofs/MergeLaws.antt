@@ -1,4 +1,5 @@
 -- The starting rows, record by record: what is held in them is what the records have of each line and side.
+use Rattle.std.specs.Prelude.{Ok, Err}
 use Prim.Native.Nat.{ℕ, suc, ◌+◌, ◌/◌, ◌≤◌, ◌<◌}
 use mathlib.Core.Path.{◌≡◌, refl, sym, ap, ◌∙◌}
 use mathlib.Core.Bool.{Bool, true, false, cond, ◌&&◌, false≢true}
@@ -8,26 +9,18 @@ use native.Mathlib.Omega.{arith}
 use lib.Dec.{eqb, leb}
 use lib.ListN.{length}
 use borrow.Author.Tests.{le-leb, lt-leb}
+use Rattle.records.specs.Chunks.{chunk_at}
 use Rattle.records.specs.Legs.{contracts_from, with_contracts}
 use Rattle.records.specs.Lines.{same_line_side, contracts_of}
 use Rattle.records.specs.Lists.{only, sum_of}
 use Rattle.records.specs.Order.{first_of, refuse}
 use Rattle.records.specs.Limits.{most_legs, most_contracts}
 use Rattle.records.specs.declared.legs.Leg.{Leg}
-use Rattle.records.specs.declared.refusals.Fault.{Fault}
-use Rattle.records.specs.declared.refusals.Fault.TheVariants.{Nothing, Is}
-use Rattle.records.specs.declared.refusals.Refusal.{Refusal}
 use Rattle.records.proofs.ChunkLaws.{rows_from, rows_all, rows_next, rows_none}
 use Rattle.records.proofs.LineLaws.{line_sym, line_swap, line_with}
 use Rattle.fills.specs.Calls.{ask_past}
 use Rattle.fills.specs.Played.{open_number}
 use Rattle.fills.specs.Rows.{held_of, more, opened, merged_into, merged_rows, unmarked, starting_legs}
-use Rattle.fills.specs.Steps.Links.{leg_in_play}
-use Rattle.fills.specs.Steps.Standing.{rows_to, Blank, Stand, Opening, merged_answer, merged_of}
-use Rattle.fills.specs.declared.merge.Merged.TheVariants.{Rows, Refused}
-use Rattle.fills.specs.declared.steps.Posting.{Posting}
-use Rattle.fills.proofs.FillLaws.{leg_start}
-use Rattle.fills.proofs.StandLaws.{stand_none}
 
 -- ---- what is held after an opening
 
@@ -101,20 +94,20 @@ pub starting_all : (xs : List ℕ) → rows_from unmarked xs 0 ≡ starting_legs
 unfolding starting_legs
 starting_all xs = rows_all unmarked xs
 
-pub record Merging (xs fills held links : List ℕ) (n i : ℕ) : Type 0 where
+pub record Merging (xs : List ℕ) (rows : List Leg) (i : ℕ) : Type 0 where
   pub before : List Leg
   pub whole : before ++ rows_from unmarked xs i ≡ starting_legs xs
-  pub stand : Stand (leg_in_play xs fills) i held links n (merged_rows before)
-  pub few : n ≤ i
+  pub are : rows ≡ merged_rows before
+  pub few : length rows ≤ i
   pub asked : first_of (ask_past [] 0 (starting_legs xs)) ≡ first_of (ask_past before i (rows_from unmarked xs i))
 
-pub merging_none : (xs fills held links : List ℕ) → 1280 ≤ length held → 2304 ≤ length links → Blank held → Blank links → Merging xs fills held links 0 0
+pub merging_none : (xs : List ℕ) → Merging xs [] 0
 unfolding merged_into
-merging_none xs fills held links a b none free =
+merging_none xs =
     record {
       before = [];
       whole = starting_all xs;
-      stand = stand_none (leg_in_play xs fills) held links a b none free;
+      are = refl;
       few = omega arith;
       asked = rw (starting_all xs);
     }
@@ -125,11 +118,11 @@ unfolding ask_past first_of
 past_good before ls l i x e h = rw (e, le-leb _ _ h)
 
 past_bad : (before ls l : List Leg) (i : ℕ) (x : Leg) → l ≡ x ∷ ls → most_contracts < contracts_of x before + x.contracts.0
-    → first_of (ask_past before i l) ≡ Is (refuse 19 1 i)
+    → first_of (ask_past before i l) ≡ Err (refuse 19 1 i)
 unfolding ask_past first_of
 past_bad before ls l i x e h = rw (e, lt-leb _ _ h)
 
-past_none : (before l : List Leg) (i : ℕ) → l ≡ [] → first_of (ask_past before i l) ≡ Nothing
+past_none : (before l : List Leg) (i : ℕ) → l ≡ [] → first_of (ask_past before i l) ≡ Ok tt
 unfolding ask_past first_of
 past_none before l i e = rw e
 
@@ -155,69 +148,41 @@ number_past held lines n h e =
       | no k ↦ omega arith
     ]
 
-module _ {xs fills held links : List ℕ} {n i : ℕ} (m : Merging xs fills held links n i) (h : i < length xs / 32) (k : i < most_legs)
-    (held' links' : List ℕ) (r : Posting) (p : Opening (leg_in_play xs fills) i held n held' links' r) where
-  abbrev x : Leg
-  x = leg_in_play xs fills i
-
-  abbrev rows : List Leg
-  rows = rows_to (leg_in_play xs fills) held i
+module _ {xs : List ℕ} {rows : List Leg} {i : ℕ} (m : Merging xs rows i) (h : i < length xs / 32) (k : i < most_legs) (x : Leg) (is : x ≡ unmarked (chunk_at 32 xs i)) where
+  abbrev number : ℕ
+  number = open_number (held_of x rows) (length rows) x.contracts.0
 
   next : rows_from unmarked xs i ≡ x ∷ rows_from unmarked xs (i + 1)
-  next = rows_next unmarked xs i x h (leg_start xs fills i h)
+  next = rows_next unmarked xs i x h is
 
   now_held : held_of x rows ≡ contracts_of x m.before
-  now_held = ap (held_of x) m.stand.are ∙ held_merged x m.before
+  now_held = ap (held_of x) m.are ∙ held_merged x m.before
 
-  pub merging_more : r.number ≡ 0 → Merging xs fills held' links' r.rows (i + 1)
+  pub merging_more : number ≡ 0 → Merging xs (opened x rows) (i + 1)
   merging_more z =
-      let o : open_number (held_of x rows) n x.contracts.0 ≡ 0 = sym p.number ∙ z in
-      let f : held_of x rows + x.contracts.0 ≤ most_contracts = number_fits _ n _ (omega (arith, m.few)) o in
-      let q : opened x rows ≡ merged_rows (m.before ++ x ∷ []) = ap (opened x) m.stand.are ∙ sym (merged_snoc m.before x) in
-      let s : Stand (leg_in_play xs fills) (i + 1) held' links' r.rows (merged_rows (m.before ++ x ∷ [])) = rw (← q) (rw o at p.stand) in
+      let f : held_of x rows + x.contracts.0 ≤ most_contracts = number_fits _ (length rows) _ (omega (arith, m.few)) z in
       record {
         before = m.before ++ x ∷ [];
         whole = append_assoc m.before (x ∷ []) (rows_from unmarked xs (i + 1)) ∙ ap (λ (l : List Leg). m.before ++ l) (sym next) ∙ m.whole;
-        stand = s;
-        few = omega (arith, s.count, ap length (merged_snoc m.before x), length_opened x (merged_rows m.before), m.stand.count, m.few);
+        are = ap (opened x) m.are ∙ sym (merged_snoc m.before x);
+        few = omega (arith, length_opened x rows, m.few);
         asked = m.asked ∙ past_good m.before (rows_from unmarked xs (i + 1)) (rows_from unmarked xs i) i x next (omega (arith, now_held));
       }
 
-  pub merging_stop : (r.number ≡ 0 → ⊥) → Refused (refuse 19 1 i) ≡ merged_of (starting_legs xs)
-  unfolding merged_of
+  pub merging_stop : (number ≡ 0 → ⊥) → Err (refuse 19 1 i) ≡ first_of (ask_past [] 0 (starting_legs xs))
   merging_stop z =
-      let f : most_contracts < held_of x rows + x.contracts.0 = number_past _ n _ (omega (arith, m.few)) (λ o. z (p.number ∙ o)) in
+      let f : most_contracts < held_of x rows + x.contracts.0 = number_past _ (length rows) _ (omega (arith, m.few)) z in
       rw (m.asked ∙ past_bad m.before (rows_from unmarked xs (i + 1)) (rows_from unmarked xs i) i x next (omega (arith, now_held)))
 
-module _ {xs fills held links : List ℕ} {n i : ℕ} (m : Merging xs fills held links n i) (h : length xs / 32 ≤ i) where
+module _ {xs : List ℕ} {rows : List Leg} {i : ℕ} (m : Merging xs rows i) (h : length xs / 32 ≤ i) where
   none : rows_from unmarked xs i ≡ []
   none = rows_none unmarked xs i h
 
   all : m.before ≡ starting_legs xs
   all = sym (append-nil m.before) ∙ ap (λ (l : List Leg). m.before ++ l) (sym none) ∙ m.whole
 
-  pub merging_stand : Stand (leg_in_play xs fills) i held links n (merged_rows (starting_legs xs))
-  merging_stand = rw (← all) m.stand
+  pub merging_all : rows ≡ merged_rows (starting_legs xs)
+  merging_all = rw (← all) m.are
 
-  pub merging_over : Rows n ≡ merged_of (starting_legs xs)
-  unfolding merged_of
-  merging_over = rw (m.asked ∙ past_none m.before (rows_from unmarked xs i) i none) (ap Rows (sym merging_stand.count))
-
--- ---- what the answer says
-
-pub merged_rows_lem : (legs : List Leg) (n : ℕ) → Rows n ≡ merged_of legs → (first_of (ask_past [] 0 legs) ≡ Nothing) × (n ≡ length (merged_rows legs))
-unfolding merged_of
-merged_rows_lem legs n e = go (first_of (ask_past [] 0 legs)) refl e
-  where
-    go : (f : Fault) → first_of (ask_past [] 0 legs) ≡ f → Rows n ≡ merged_answer f (length (merged_rows legs))
-        → (first_of (ask_past [] 0 legs) ≡ Nothing) × (n ≡ length (merged_rows legs))
-    go Nothing p q = (p, cc)
-    go (Is r) p q = let z : ◌≡◌ {A = ℕ} 0 1 = cc in absurd (omega arith)
-
-pub merged_refused : (legs : List Leg) (r : Refusal) → Refused r ≡ merged_of legs → first_of (ask_past [] 0 legs) ≡ Is r
-unfolding merged_of
-merged_refused legs r e = go (first_of (ask_past [] 0 legs)) refl e
-  where
-    go : (f : Fault) → first_of (ask_past [] 0 legs) ≡ f → Refused r ≡ merged_answer f (length (merged_rows legs)) → first_of (ask_past [] 0 legs) ≡ Is r
-    go Nothing p q = let z : ◌≡◌ {A = ℕ} 0 1 = cc in absurd (omega arith)
-    go (Is s) p q = let t : r ≡ s = cc in p ∙ ap Is (sym t)
+  pub merging_over : Ok tt ≡ first_of (ask_past [] 0 (starting_legs xs))
+  merging_over = rw (m.asked ∙ past_none m.before (rows_from unmarked xs i) i none)

@@ -1,8 +1,11 @@
 -- A posting that is done, or refused with its number.
+use Rattle.std.specs.Prelude.{Option, None, Some}
 use Prim.Native.Nat.{ℕ, suc, ◌+◌, ◌-◌, ◌≤◌, ◌<◌, min}
 use mathlib.Core.Path.{◌≡◌, refl, sym, ap, ◌∙◌}
-use mathlib.Core.Bool.{Bool, true, false, not, false≢true, and-eq-true_iff}
+use mathlib.Core.Bool.{Bool, true, false, not, cond, false≢true, and-eq-true_iff}
 use mathlib.Core.List.{List}
+use mathlib.Core.Logic.{∥∥₁_elim}
+use mathlib.Core.HLevel.{⊥_prop}
 use native.Mathlib.Decide.{dec_le}
 use native.Mathlib.Omega.{arith}
 use lib.Dec.{eqb}
@@ -15,27 +18,37 @@ use Rattle.records.specs.declared.counts.Contracts.{Contracts}
 use Rattle.records.specs.declared.legs.Leg.{Leg}
 use Rattle.records.proofs.LineLaws.{swap_line}
 use Rattle.records.proofs.TableLaws.{ranges}
-use Rattle.fills.specs.Rows.{held_of}
+use Rattle.fills.specs.Rows.{held_of, opened, closed}
 use Rattle.fills.specs.Played.{open_number, close_number}
 use Rattle.fills.specs.Steps.Links.{bucket_of, is_row, Ended}
-use Rattle.fills.specs.Steps.Standing.{rows_to, Live, Stand, Posted, Opening, Closing}
-use Rattle.fills.specs.declared.steps.Posting.{Posting}
+use Rattle.fills.specs.Steps.Standing.{rows_to, Live, Stand, refused_with}
 use Rattle.fills.proofs.HeldLaws.{rows_others, lot_held, lot_opened, lot_closed}
 use Rattle.fills.proofs.LinkLaws.{same_bucket}
 use Rattle.fills.proofs.PlaceLaws.{held_none, opened_none}
 use Rattle.fills.proofs.RowLaws.{rows_some}
 use Rattle.fills.proofs.StandLaws.{stand_skip, stand_changed, stand_gone, stand_new, live_before}
 
-abbrev pub posting : ℕ → ℕ → Posting
-posting n number = record { rows = n; number = number }
+-- a posting of record k with this number, 0 where it is not refused: rows `after` stand then, and `before` where it is
+pub record Posted (leg : ℕ → Leg) (k number : ℕ) (after before : List Leg) (held links : List ℕ) (n : ℕ) (answer : Option ℕ) : Type 0 where
+  pub answered : answer ≡ refused_with number
+  pub stand : Stand leg (k + 1) held links n (cond (eqb number 0) after before)
+
+-- record k opened, and closed, over n rows of the records before it
+abbrev pub Opening : (ℕ → Leg) → ℕ → List ℕ → ℕ → List ℕ → List ℕ → ℕ → Option ℕ → Type 0
+Opening leg k before n held links m answer =
+    Posted leg k (open_number (held_of (leg k) (rows_to leg before k)) n (leg k).contracts.0) (opened (leg k) (rows_to leg before k)) (rows_to leg before k) held links m answer
+
+abbrev pub Closing : (ℕ → Leg) → ℕ → List ℕ → List ℕ → List ℕ → ℕ → Option ℕ → Type 0
+Closing leg k before held links m answer =
+    Posted leg k (close_number (held_of (leg k) (rows_to leg before k)) (leg k).contracts.0) (closed (leg k) (rows_to leg before k)) (rows_to leg before k) held links m answer
 
 module _ {leg : ℕ → Leg} {k refused : ℕ} {after before : List Leg} {held links : List ℕ} {n : ℕ} where
-  pub posted_done : refused ≡ 0 → Stand leg (k + 1) held links n after → Posted leg k refused after before held links (posting n 0)
-  posted_done e s = record { number = sym e; stand = rw e s }
+  posted_done : refused ≡ 0 → Stand leg (k + 1) held links n after → Posted leg k refused after before held links n None
+  posted_done e s = record { answered = rw e; stand = rw e s }
 
-  pub posted_not : (number : ℕ) → refused ≡ number → eqb number 0 ≡ false → Stand leg (k + 1) held links n before
-      → Posted leg k refused after before held links (posting n number)
-  posted_not number e z s = record { number = sym e; stand = rw (e, z) s }
+  posted_not : (number : ℕ) → refused ≡ number → eqb number 0 ≡ false → Stand leg (k + 1) held links n before
+      → Posted leg k refused after before held links n (Some number)
+  posted_not number e z s = record { answered = rw (e, z); stand = rw (e, z) s }
 
 -- ---- the numbers
 
@@ -79,7 +92,13 @@ module _ {leg : ℕ → Leg} {k : ℕ} {held links : List ℕ} {n : ℕ} (s : St
   size_fits = (ranges 0 (leg k) g).contracts
 
   -- at a row
-  module _ (j : ℕ) (t : get_or links at 0 ≡ suc j) where
+  module _ (n' : get_or links at 0 ≡ 0 → ⊥) where
+    abbrev j : ℕ
+    j = get_or links at 0 - 1
+
+    t : get_or links at 0 ≡ suc j
+    t = omega arith
+
     abbrev lot : ℕ
     lot = get_or held j 0
 
@@ -92,11 +111,14 @@ module _ {leg : ℕ → Leg} {k : ℕ} {held links : List ℕ} {n : ℕ} (s : St
     some : 1 ≤ lot
     some = at_least_one lot live
 
-    pub there : j < k
+    there : j < k
     there = live_before s j live
 
     room : j < length held
     room = omega (arith, there, s.held_room)
+
+    pub inside : j < 1280
+    inside = omega (arith, there)
 
     others : (i : ℕ) → (i ≡ j → ⊥) → Live held i → same_line_side (leg k) (leg i) ≡ false
     others i m l = false_where _ (λ a. m (s.apart i j l live (sym (swap_line (leg k) (leg i) (leg j) a) ∙ row_is.1)))
@@ -107,60 +129,55 @@ module _ {leg : ℕ → Leg} {k : ℕ} {held links : List ℕ} {n : ℕ} (s : St
     pub rows_held : 1 ≤ n
     rows_held = omega (arith, rows_some (leg k) (rows_to leg held k) (omega (arith, held_is, some)), s.count)
 
-    pub add_done : (v : ℕ) → v ≡ lot + size → v ≤ most_contracts → Opening leg k held n (set held j v) links (posting n 0)
+    -- their sum, as code adds them
+    pub add_done : (v : ℕ) → v ≡ min (lot + size) 4294967295 → v ≤ most_contracts → Opening leg k held n (set held j v) links n None
     add_done v e m =
         posted_done (rw held_is (open_done lot n size some (omega arith)))
-        (rw (lot_opened leg held k j there room live (leg k) row_is.1 others v e)
+        (rw (lot_opened leg held k j there room live (leg k) row_is.1 others v (omega arith))
         (stand_skip (stand_changed s small j live v (λ z. live (omega arith)))))
 
-    pub add_past : most_contracts < lot + size → Opening leg k held n held links (posting n 19)
-    add_past m = posted_not 19 (rw held_is (open_past lot n size some m)) refl (stand_skip s)
+    pub add_past : (v : ℕ) → v ≡ min (lot + size) 4294967295 → most_contracts < v → Opening leg k held n held links n (Some 19)
+    add_past v e m = posted_not 19 (rw held_is (open_past lot n size some (omega arith))) refl (stand_skip s)
 
-    pub take_some : (v : ℕ) → v ≡ lot - size → size < lot → Closing leg k held (set held j v) links (posting n 0)
-    take_some v e m =
+    pub take_some : (m : ℕ) → m ≡ size → m < lot → Closing leg k held (set held j (lot - m)) links n None
+    take_some m e h =
         posted_done (rw held_is (close_done lot size (omega arith)))
-        (rw (lot_closed leg held k j there room live (leg k) row_is.1 others v e (omega arith))
-        (stand_skip (stand_changed s small j live v (λ z. omega arith))))
+        (rw (lot_closed leg held k j there room live (leg k) row_is.1 others (lot - m) (omega arith) (omega arith))
+        (stand_skip (stand_changed s small j live (lot - m) (λ z. omega arith))))
 
-    pub take_all : size ≡ lot → Closing leg k held (set held j 0) (set links at (get_or links (1024 + j) 0)) (posting (n - 1) 0)
-    take_all m =
+    pub take_all : (m : ℕ) → m ≡ size → m ≡ lot → Closing leg k held (set held j 0) (set links at (get_or links (1024 + j) 0)) (n - 1) None
+    take_all m e h =
         posted_done (rw held_is (close_done lot size (omega arith)))
         (rw (lot_closed leg held k j there room live (leg k) row_is.1 others 0 (omega arith) (omega arith))
         (stand_skip (stand_gone s small j live at t)))
 
-    pub take_past : lot < size → Closing leg k held held links (posting n 18)
-    take_past m = posted_not 18 (rw held_is (close_past lot size m)) refl (stand_skip s)
+    pub take_past : (m : ℕ) → m ≡ size → lot ≤ m → (m ≡ lot → ⊥) → Closing leg k held held links n (Some 18)
+    take_past m e h other = posted_not 18 (rw held_is (close_past lot size (omega arith))) refl (stand_skip s)
 
   -- at the free link: there is no row
   module _ (free : get_or links at 0 ≡ 0) where
     missing : (i : ℕ) → Live held i → same_line_side (leg k) (leg i) ≡ false
     missing i l =
         false_where _
-        (λ a. ended.none free i (rw (same_bucket (leg k) (leg i) a) (s.linked i l)) (rw (ne_eqb (get_or held i 0) 0 l, a)))
+        (λ a. ∥∥₁_elim (s.linked i l) ⊥_prop (λ d. ended.none free i (rw (same_bucket (leg k) (leg i) a) d) (rw (ne_eqb (get_or held i 0) 0 l, a))))
 
     held_not : held_of (leg k) (rows_to leg held k) ≡ 0
     held_not = held_none (leg k) (rows_to leg held k) (rows_others leg (leg k) held k (λ i h l. missing i l))
 
-    pub new_done : n < most_legs → (v w : ℕ) → v ≡ size → w ≡ suc k → Opening leg k held n (set held k v) (set links at w) (posting (n + 1) 0)
+    pub new_done : n < most_legs → (v w : ℕ) → v ≡ size → w ≡ suc k → Opening leg k held n (set held k v) (set links at w) (n + 1) None
     new_done h v w e f =
         posted_done (open_new _ n size held_not h size_fits.1)
         (rw (opened_none (leg k) (rows_to leg held k) (rows_others leg (leg k) held k (λ i h l. missing i l)), f)
         (stand_new s small at ended.path free missing v e (λ z. omega (arith, size_fits.0)) h))
 
-    pub new_full : most_legs ≤ n → Opening leg k held n held links (posting n 19)
+    pub new_full : most_legs ≤ n → Opening leg k held n held links n (Some 19)
     new_full h = posted_not 19 (open_full _ n size held_not h) refl (stand_skip s)
 
-    pub take_none : Closing leg k held held links (posting n 18)
+    pub take_none : Closing leg k held held links n (Some 18)
     take_none = posted_not 18 (close_past _ size (omega (arith, held_not, size_fits.0))) refl (stand_skip s)
 
 -- ---- contracts as code adds them
 
-module _ (a : ℕ) (x : Leg) (made sum : Contracts) (m : ℕ) (em : made ≡ contracts_from a) (es : sum ≡ plus_contracts made x.contracts) (en : m ≡ sum.0) where
-  sum_is : m ≡ min (a + x.contracts.0) 4294967295
-  sum_is = rw (en, es, em)
-
-  pub sum_fits : m ≤ most_contracts → m ≡ a + x.contracts.0
-  sum_fits h = omega (arith, sum_is)
-
-  pub sum_past : most_contracts < m → most_contracts < a + x.contracts.0
-  sum_past h = omega (arith, sum_is)
+pub sum_is : {a m : ℕ} {x y : Leg} {made sum : Contracts} → made ≡ contracts_from a → sum ≡ plus_contracts made x.contracts → m ≡ sum.0 → x ≡ y
+    → m ≡ min (a + y.contracts.0) 4294967295
+sum_is {a} em es en ex = rw (en, es, em) (ap (λ (l : Leg). min (a + l.contracts.0) 4294967295) ex)

@@ -1,4 +1,5 @@
 -- The result of a call that is not refused is a table of holdings, in which each line and side stands once.
+use Rattle.std.specs.Prelude.{Result, Ok, Err}
 use Prim.Native.Nat.{ℕ, suc, ◌+◌, ◌-◌, ◌*◌, ◌/◌, ◌%◌, ◌≤◌, ◌<◌}
 use mathlib.Core.Path.{◌≡◌, refl, sym, ap, ◌∙◌}
 use mathlib.Core.Bool.{Bool, true, false, cond, ◌&&◌}
@@ -18,10 +19,7 @@ use Rattle.records.specs.Limits.{most_legs, most_contracts}
 use Rattle.records.specs.Tables.{good_record, table_checks, field_checks, check_call, whole_table}
 use Rattle.records.specs.Written.{left_after}
 use Rattle.records.specs.declared.legs.Leg.{Leg}
-use Rattle.records.specs.declared.refusals.Fault.{Fault}
-use Rattle.records.specs.declared.refusals.Fault.TheVariants.{Nothing, Is}
 use Rattle.records.specs.declared.tables.Kind.TheVariants.{Holdings}
-use Rattle.records.specs.declared.tables.Counted.TheVariants.{Records}
 use Rattle.records.proofs.LegLaws.{contracts_range, paid_range, leg_good}
 use Rattle.records.proofs.LineLaws.{line_sym}
 use Rattle.records.proofs.ListLaws.{map_all}
@@ -35,8 +33,6 @@ use Rattle.fills.specs.Played.{open_number, number_over, rows_after, played_over
 use Rattle.fills.specs.Calls.{play_start, ask_past, play_room, play_checks, rows_played, refused_in, play_answer, play_call, has_played}
 use Rattle.fills.specs.Ledger.{Apart, Filled}
 use Rattle.fills.specs.Demands.{CallStands, ResultSound, ResultUnpaid, ResultStays, LeftByPlay, PlayLeaves}
-use Rattle.fills.specs.declared.calls.Played.{Played}
-use Rattle.fills.specs.declared.calls.Played.TheVariants.{Done, Refused}
 use Rattle.fills.proofs.BalanceLaws.{contracts_apart}
 use Rattle.fills.proofs.FillLaws.{good_range}
 use Rattle.fills.proofs.LedgerLaws.{fill_range, fill_unpaid, fill_open, fill_close, ledger_stands, ledger_refuses}
@@ -46,6 +42,9 @@ use Rattle.fills.proofs.PlayLaws.{Tabled, tables_clear}
 use Rattle.fills.proofs.RowLaws.{all_opened, all_closed, left_some, length_opened_is}
 use Rattle.fills.proofs.BytesLaws.{length_bytes, records_back, legs_back}
 use Rattle.fills.proofs.UnpaidLaws.{unpaid, starting_is, unpaid_same, start_same}
+use Rattle.records.specs.declared.refusals.Refusal.{Refusal}
+use Rattle.fills.specs.declared.calls.Tally.{Tally}
+use Rattle.fills.specs.Calls.{tally}
 
 -- rows that make a table of holdings
 record Fine (rows : List Leg) : Type 0 where
@@ -173,11 +172,20 @@ started before (x ∷ xs) i s p a u =
 
 -- ---- a call that is not refused
 
+same_tally : {t u : Tally} → ◌≡◌ {A = Result Tally Refusal} (Ok t) (Ok u) → t ≡ u
+same_tally e = cc
+
+tally_rows : {rows refused n k : ℕ} → ◌≡◌ {A = Result Tally Refusal} (Ok (tally rows refused)) (Ok (tally n k)) → rows ≡ n
+tally_rows e = ap (λ (t : Tally). t.rows) (same_tally e)
+
+tally_refused : {rows refused n k : ℕ} → ◌≡◌ {A = Result Tally Refusal} (Ok (tally rows refused)) (Ok (tally n k)) → refused ≡ k
+tally_refused e = ap (λ (t : Tally). t.refused) (same_tally e)
+
 pub record Passed (h f : List ℕ) : Type 0 where
   pub tabled : Tabled h f
   pub lots : Pass (ask_past [] 0 (starting_legs h))
 
-pub passed : (h f : List ℕ) (result indices numbers n k : ℕ) → play_call h f result indices numbers ≡ Done n k → Passed h f × (n ≡ length (rows_played h f))
+pub passed : (h f : List ℕ) (result indices numbers n k : ℕ) → play_call h f result indices numbers ≡ Ok (tally n k) → Passed h f × (n ≡ length (rows_played h f))
 unfolding play_call play_checks
 passed h f result indices numbers n k e = go (first_of checks) refl e
   where
@@ -187,18 +195,18 @@ passed h f result indices numbers n k e = go (first_of checks) refl e
     checks : List Check
     checks = play_start h f ++ (ask_past [] 0 (starting_legs h) ++ room)
 
-    go : (v : Fault) → first_of checks ≡ v → play_answer v (length (rows_played h f)) (length (refused_in h f)) ≡ Done n k → Passed h f × (n ≡ length (rows_played h f))
-    go Nothing q r =
+    go : (v : Result Unit Refusal) → first_of checks ≡ v → play_answer v (length (rows_played h f)) (length (refused_in h f)) ≡ Ok (tally n k) → Passed h f × (n ≡ length (rows_played h f))
+    go (Ok tt) q r =
         let p = clear checks q in (
           record {
             tabled = tables_clear h f (unclear (play_start h f) (pass_left (play_start h f) (ask_past [] 0 (starting_legs h) ++ room) p));
             lots = pass_left (ask_past [] 0 (starting_legs h)) room (pass_right (play_start h f) (ask_past [] 0 (starting_legs h) ++ room) p);
           },
-          cc,
+          sym (tally_rows r),
         )
-    go (Is x) q r = let z : ◌≡◌ {A = ℕ} 0 1 = cc in absurd (omega arith)
+    go (Err x) q r = let z : ◌≡◌ {A = ℕ} 0 1 = cc in absurd (omega arith)
 
-legs_good : (h : List ℕ) → first_of (field_checks Holdings h) ≡ Nothing → All (λ l. in_range 0 l ≡ true) (starting_legs h)
+legs_good : (h : List ℕ) → first_of (field_checks Holdings h) ≡ Ok tt → All (λ l. in_range 0 l ≡ true) (starting_legs h)
 unfolding starting_legs unmarked
 legs_good h e =
     map_all unmarked (λ l. in_range 0 l ≡ true) (λ r. good_record Holdings r ≡ true) (records_of h) (λ r g. paid_range 0 0 (leg_of r) (good_range r g) (omega arith))
@@ -233,13 +241,13 @@ module _ (h f : List ℕ) (p : Passed h f) where
   unfolding rows_played
   rows_apart = (ledger_stands (starting_legs h) (records_of f) (filled (starting_legs h) (legs_good h p.tabled.fields))).apart
 
-listed : (h f : List ℕ) (result indices numbers n k : ℕ) → play_call h f result indices numbers ≡ Done n k → k ≡ length (refused_in h f)
+listed : (h f : List ℕ) (result indices numbers n k : ℕ) → play_call h f result indices numbers ≡ Ok (tally n k) → k ≡ length (refused_in h f)
 unfolding play_call
 listed h f result indices numbers n k e = go (first_of (play_checks h f result indices numbers)) e
   where
-    go : (v : Fault) → play_answer v (length (rows_played h f)) (length (refused_in h f)) ≡ Done n k → k ≡ length (refused_in h f)
-    go Nothing r = cc
-    go (Is x) r = let z : ◌≡◌ {A = ℕ} 0 1 = cc in absurd (omega arith)
+    go : (v : Result Unit Refusal) → play_answer v (length (rows_played h f)) (length (refused_in h f)) ≡ Ok (tally n k) → k ≡ length (refused_in h f)
+    go (Ok tt) r = sym (tally_refused r)
+    go (Err x) r = let z : ◌≡◌ {A = ℕ} 0 1 = cc in absurd (omega arith)
 
 -- ---- its table
 
@@ -252,7 +260,7 @@ whole_bytes rows f =
     let l = length_bytes rows in
     rw (eq-eqb (length (bytes_of rows) % 32) 0 (omega arith), le-leb (length (bytes_of rows) / 32) most_legs (omega (arith, f.few)))
 
-table_sound : (rows : List Leg) → Fine rows → check_call Holdings (bytes_of rows) ≡ Records (length rows)
+table_sound : (rows : List Leg) → Fine rows → check_call Holdings (bytes_of rows) ≡ Ok (length rows)
 unfolding check_call table_checks field_checks
 table_sound rows f =
     let l = length_bytes rows in
@@ -263,7 +271,7 @@ table_sound rows f =
 pub result_sound : ResultSound
 result_sound h f result indices numbers n k e =
     let p = passed h f result indices numbers n k e in
-    table_sound (rows_played h f) (rows_fine h f p.0) ∙ ap Records (sym p.1)
+    table_sound (rows_played h f) (rows_fine h f p.0) ∙ ap Ok (sym p.1)
 
 -- 'replayed holdings get mark 0'
 pub result_unpaid : ResultUnpaid
@@ -313,7 +321,7 @@ past_apart before (x ∷ xs) i a g = (
 )
 
 -- a table of rows apart, played over by no fills, is refused nothing
-again_clear : (rows : List Leg) (room i j : ℕ) → Fine rows → Apart rows → 8192 ≤ room → first_of (play_checks (bytes_of rows) [] room i j) ≡ Nothing
+again_clear : (rows : List Leg) (room i j : ℕ) → Fine rows → Apart rows → 8192 ≤ room → first_of (play_checks (bytes_of rows) [] room i j) ≡ Ok tt
 unfolding play_checks play_start field_checks play_room
 again_clear rows room i j f a h =
     let w = whole_bytes rows f in
@@ -325,12 +333,12 @@ again_clear rows room i j f a h =
     (pass_both (play_start (bytes_of rows) []) (ask_past [] 0 (starting_legs (bytes_of rows)) ++ play_room 0 room i j) fields
     (pass_both (ask_past [] 0 (starting_legs (bytes_of rows))) (play_room 0 room i j) lots room-there))
 
-again_done : (rows : List Leg) (room i j : ℕ) → Fine rows → Apart rows → 8192 ≤ room → play_call (bytes_of rows) [] room i j ≡ Done (length rows) 0
+again_done : (rows : List Leg) (room i j : ℕ) → Fine rows → Apart rows → 8192 ≤ room → play_call (bytes_of rows) [] room i j ≡ Ok (tally (length rows) 0)
 unfolding play_call
 again_done rows room i j f a h = rw (again_clear rows room i j f a h, again rows f a, none_refused (bytes_of rows))
 
 -- the records that a call leaves at the front of its result
-pub left_records : (rows : List Leg) (result : List ℕ) (n k : ℕ) → n ≡ length rows → take (32 * n) (left_after (has_played (Done n k)) (bytes_of rows) result) ≡ bytes_of rows
+pub left_records : (rows : List Leg) (result : List ℕ) (n k : ℕ) → n ≡ length rows → take (32 * n) (left_after (has_played (Ok (tally n k))) (bytes_of rows) result) ≡ bytes_of rows
 left_records rows result n k e =
     let m : 32 * n ≡ length (bytes_of rows) = omega (arith, length_bytes rows) in
     rw m (put_front result (bytes_of rows))
@@ -341,7 +349,7 @@ result_stays h f result indices numbers n k e room i j r =
     let rows = rows_played h f in
     let fine = rows_fine h f q.0 in
     let apart = rows_apart h f q.0 in
-    rw (left_records rows result n k q.1) (again_done rows room i j fine apart r ∙ ap (λ (m : ℕ). Done m 0) (sym q.1), ap bytes_of (again rows fine apart))
+    rw (left_records rows result n k q.1) (again_done rows room i j fine apart r ∙ ap (λ (m : ℕ). (Ok (tally m 0))) (sym q.1), ap bytes_of (again rows fine apart))
 
 -- ---- rows and ledger of a call
 
@@ -357,12 +365,12 @@ call_stands h f result indices numbers n k e =
 pub play_leaves : PlayLeaves
 play_leaves h f d i m = go (play_call h f (length d) (length i) (length m)) refl
   where
-    go : (r : Played) → play_call h f (length d) (length i) (length m) ≡ r → LeftByPlay r h f d i m
-    go (Done n k) e = (
-      length_bytes (rows_played h f) ∙ ap (λ (t : ℕ). 32 * t) (sym (passed h f (length d) (length i) (length m) n k e).1),
-      sym (listed h f (length d) (length i) (length m) n k e),
+    go : (r : Result Tally Refusal) → play_call h f (length d) (length i) (length m) ≡ r → LeftByPlay r h f d i m
+    go (Ok t) e = (
+      length_bytes (rows_played h f) ∙ ap (λ (n : ℕ). 32 * n) (sym (passed h f (length d) (length i) (length m) t.rows t.refused e).1),
+      sym (listed h f (length d) (length i) (length m) t.rows t.refused e),
       left_stands d (bytes_of (rows_played h f)),
       left_stands i (indices_of (refused_in h f)),
       left_stands m (numbers_of (refused_in h f)),
     )
-    go (Refused r) e = (refl, refl, refl)
+    go (Err r) e = (refl, refl, refl)

@@ -3,6 +3,7 @@ use Prim.Native.Nat.{ℕ, zero, suc, ◌+◌, ◌-◌, ◌≤◌, ◌<◌}
 use mathlib.Core.Path.{◌≡◌, refl, sym, ap, ◌∙◌}
 use mathlib.Core.Bool.{true, false, false≢true}
 use mathlib.Core.List.{List, [], ◌∷◌, ◌++◌, append-nil}
+use mathlib.Core.Logic.{∥∥₁_map}
 use native.Mathlib.Decide.{ℕ_discrete, dec_le}
 use native.Mathlib.Omega.{arith}
 use lib.ListN.{length, get_or, set, replicate, length-append, length-set}
@@ -45,9 +46,6 @@ stand_none leg held links a b none free =
 module _ {leg : ℕ → Leg} {k : ℕ} {held links : List ℕ} {n : ℕ} {rows : List Leg} (s : Stand leg k held links n rows) where
   pub stand_self : Stand leg k held links n (rows_to leg held k)
   stand_self = rw s.are s
-
-  pub stand_count : {m : ℕ} → m ≡ n → Stand leg k held links m rows
-  stand_count e = rw e s
 
   -- record k is no row
   pub stand_skip : Stand leg (k + 1) held links n rows
@@ -127,7 +125,7 @@ module _ {leg : ℕ → Leg} {k : ℕ} {held links : List ℕ} {n : ℕ} {rows :
           are = refl;
           later = still_none 0;
           rising = rising_less links j at t at_small at_room k s.rising;
-          linked = λ i l. leads_less links j at t at_small at_room i (not_gone i l) (s.linked i (was_live 0 i l));
+          linked = λ i l. ∥∥₁_map (s.linked i (was_live 0 i l)) (λ d. leads_less links j at t at_small at_room i (not_gone i l) d);
           apart = λ i m a b q. s.apart i m (was_live 0 i a) (was_live 0 m b) q;
         }
 
@@ -155,11 +153,11 @@ module _ {leg : ℕ → Leg} {k : ℕ} {held links : List ℕ} {n : ℕ} {rows :
         rows_more leg (set held k v) k
         ∙ rw (get_or-set_same held k v 0 held_long, ne_eqb v 0 some, rows_same leg held (set held k v) k 0 (λ i a b. get_or-set_other held k i v 0 (λ e. omega arith)), s.are, is)
 
-    linked_new : (i : ℕ) → Live (set held k v) i → Leads (set links at (suc k)) (bucket_of (leg i)) i
+    linked_new : (i : ℕ) → Live (set held k v) i → ∥ Leads (set links at (suc k)) (bucket_of (leg i)) i ∥₁
     linked_new i l =
         elim (ℕ_discrete i k) [
-          | yes e ↦ rw e (leads_here links k at none at_fits path)
-          | no m ↦ leads_new links k at none at_fits (s.linked i (old i m l))
+          | yes e ↦ ∣ rw e (leads_here links k at none at_fits path) ∣₁
+          | no m ↦ ∥∥₁_map (s.linked i (old i m l)) (λ d. leads_new links k at none at_fits d)
         ]
 
     apart_new : (i j : ℕ) → Live (set held k v) i → Live (set held k v) j → same_line_side (leg i) (leg j) ≡ true → i ≡ j

@@ -1,6 +1,6 @@
 -- What is demanded of the day's fills, of the definitions that the contract of `play` cites; the proofs stand in
 -- proofs/LedgerLaws, BalanceLaws, ResultLaws and KeptBytes.
-use Rattle.std.specs.Prelude.{◌≡◌, false, List, [], ◌∷◌, ◌++◌, ℕ, ◌+◌, ◌*◌, ◌≤◌, length, take}
+use Rattle.std.specs.Prelude.{◌≡◌, false, List, [], ◌∷◌, ◌++◌, ℕ, ◌+◌, ◌*◌, ◌≤◌, length, take, Result, Ok, Err}
 use Rattle.records.specs.Bytes.{AllBytes}
 use Rattle.records.specs.Chunks.{records_of}
 use Rattle.records.specs.Legs.{leg_of}
@@ -12,15 +12,15 @@ use Rattle.records.specs.Written.{put_at, left_after, StandsFirst}
 use Rattle.records.specs.Limits.{record_bytes}
 use Rattle.records.specs.declared.legs.Leg.{Leg}
 use Rattle.records.specs.declared.tables.Kind.TheVariants.{Holdings}
-use Rattle.records.specs.declared.tables.Counted.TheVariants.{Records}
 use Rattle.fills.specs.Fills.{fill_leg, result_bytes}
 use Rattle.fills.specs.Rows.{merged_rows, bytes_of, starting_legs}
 use Rattle.fills.specs.Played.{played_over, refused_over}
 use Rattle.fills.specs.Calls.{rows_played, refused_in, play_call, has_played}
 use Rattle.fills.specs.Ledger.{Ledger, empty_ledger, started_from, ledger_over, refused_by, Apart, StandFor, Filled}
 use Rattle.fills.specs.Balance.{accepted_over, opened_in, closed_in}
-use Rattle.fills.specs.declared.calls.Played.{Played}
-use Rattle.fills.specs.declared.calls.Played.TheVariants.{Done, Refused}
+use Rattle.records.specs.declared.refusals.Refusal.{Refusal}
+use Rattle.fills.specs.declared.calls.Tally.{Tally}
+use Rattle.fills.specs.Calls.{tally}
 
 -- ---- 'Each is answered as a plain ledger from line and side to contracts would.'
 
@@ -45,7 +45,7 @@ start_of h = started_from empty_ledger (legs_of h)
 
 -- the same of every call that is not refused
 abbrev pub CallStands : Type 0
-CallStands = (h f : List ℕ) (result indices numbers n k : ℕ) → play_call h f result indices numbers ≡ Done n k
+CallStands = (h f : List ℕ) (result indices numbers n k : ℕ) → play_call h f result indices numbers ≡ Ok (tally n k)
     → StandFor (rows_played h f) (ledger_over (start_of h) (records_of f)) × (refused_in h f ≡ refused_by 0 (start_of h) (records_of f))
 
 -- ---- contracts are neither made nor lost
@@ -65,21 +65,21 @@ StartingContracts = (x : Leg) (h : List ℕ) → contracts_of x (starting_legs h
 
 -- it is a table of holdings: whole records, at most 256, each field in its range
 abbrev pub ResultSound : Type 0
-ResultSound = (h f : List ℕ) (result indices numbers n k : ℕ) → play_call h f result indices numbers ≡ Done n k
-    → check_call Holdings (bytes_of (rows_played h f)) ≡ Records n
+ResultSound = (h f : List ℕ) (result indices numbers n k : ℕ) → play_call h f result indices numbers ≡ Ok (tally n k)
+    → check_call Holdings (bytes_of (rows_played h f)) ≡ Ok n
 
 -- 'replayed holdings get mark 0': every record of it, touched by a fill or not
 abbrev pub ResultUnpaid : Type 0
-ResultUnpaid = (h f : List ℕ) (result indices numbers n k : ℕ) → play_call h f result indices numbers ≡ Done n k
+ResultUnpaid = (h f : List ℕ) (result indices numbers n k : ℕ) → play_call h f result indices numbers ≡ Ok (tally n k)
     → All (λ l. l.paid ≡ 0) (legs_of (bytes_of (rows_played h f)))
 
 -- With no fills at all it comes out as it went in: a second call, over the records that the first left in `result`, answers as many
 -- and no refused fill, in any lent slices with room for a table, and leaves the same records there.
 abbrev pub ResultStays : Type 0
-ResultStays = (h f result : List ℕ) (indices numbers n k : ℕ) → play_call h f (length result) indices numbers ≡ Done n k
+ResultStays = (h f result : List ℕ) (indices numbers n k : ℕ) → play_call h f (length result) indices numbers ≡ Ok (tally n k)
     → (room i j : ℕ) → result_bytes ≤ room
-    → (let records = take (record_bytes * n) (left_after (has_played (Done n k)) (bytes_of (rows_played h f)) result) in
-    (play_call records [] room i j ≡ Done n 0) × (bytes_of (rows_played records []) ≡ records))
+    → (let records = take (record_bytes * n) (left_after (has_played (Ok (tally n k))) (bytes_of (rows_played h f)) result) in
+    (play_call records [] room i j ≡ Ok (tally n 0)) × (bytes_of (rows_played records []) ≡ records))
 
 -- ---- what no fill touches comes out byte for byte
 
@@ -95,31 +95,31 @@ pub record Untouched (h f x : List ℕ) : Type 0 where
 
 -- the records that a call leaves at the front of its result
 abbrev pub result_records : List ℕ → List ℕ → List ℕ → ℕ → ℕ → List (List ℕ)
-result_records h f result n k = records_of (take (record_bytes * n) (left_after (has_played (Done n k)) (bytes_of (rows_played h f)) result))
+result_records h f result n k = records_of (take (record_bytes * n) (left_after (has_played (Ok (tally n k))) (bytes_of (rows_played h f)) result))
 
 -- it is one of them
 abbrev pub UntouchedStays : Type 0
-UntouchedStays = (h f result : List ℕ) (indices numbers n k : ℕ) → AllBytes h → play_call h f (length result) indices numbers ≡ Done n k
+UntouchedStays = (h f result : List ℕ) (indices numbers n k : ℕ) → AllBytes h → play_call h f (length result) indices numbers ≡ Ok (tally n k)
     → (x : List ℕ) → Untouched h f x
     → (before : List (List ℕ)) × (after : List (List ℕ)) × (result_records h f result n k ≡ before ++ x ∷ after)
 
 -- A starting table without repeats and marks comes out as it was where no fill is accepted, as where there is none.
 abbrev pub StartingStays : Type 0
-StartingStays = (h f result : List ℕ) (indices numbers n k : ℕ) → AllBytes h → play_call h f (length result) indices numbers ≡ Done n k
+StartingStays = (h f result : List ℕ) (indices numbers n k : ℕ) → AllBytes h → play_call h f (length result) indices numbers ≡ Ok (tally n k)
     → Apart (legs_of h) → All (λ l. l.paid ≡ 0) (legs_of h) → accepted_over (merged_rows (starting_legs h)) (records_of f) ≡ []
-    → left_after (has_played (Done n k)) (bytes_of (rows_played h f)) result ≡ put_at result 0 h
+    → left_after (has_played (Ok (tally n k))) (bytes_of (rows_played h f)) result ≡ put_at result 0 h
 
 -- ---- 'Nothing lent is written' on a refusal; 'what lies past its output in a lent slice stays'
 
 -- what an answer leaves in the three lent slices
-abbrev pub LeftByPlay : Played → List ℕ → List ℕ → List ℕ → List ℕ → List ℕ → Type 0
-LeftByPlay (Done n k) h f d i m =
-    (length (bytes_of (rows_played h f)) ≡ record_bytes * n)
-    × (length (refused_in h f) ≡ k)
-    × StandsFirst (bytes_of (rows_played h f)) d (left_after (has_played (Done n k)) (bytes_of (rows_played h f)) d)
-    × StandsFirst (indices_of (refused_in h f)) i (left_after (has_played (Done n k)) (indices_of (refused_in h f)) i)
-    × StandsFirst (numbers_of (refused_in h f)) m (left_after (has_played (Done n k)) (numbers_of (refused_in h f)) m)
-LeftByPlay (Refused r) h f d i m = (left_after (has_played (Refused r)) (bytes_of (rows_played h f)) d ≡ d) × (left_after (has_played (Refused r)) (indices_of (refused_in h f)) i ≡ i) × (left_after (has_played (Refused r)) (numbers_of (refused_in h f)) m ≡ m)
+abbrev pub LeftByPlay : Result Tally Refusal → List ℕ → List ℕ → List ℕ → List ℕ → List ℕ → Type 0
+LeftByPlay (Ok t) h f d i m =
+    (length (bytes_of (rows_played h f)) ≡ record_bytes * t.rows)
+    × (length (refused_in h f) ≡ t.refused)
+    × StandsFirst (bytes_of (rows_played h f)) d (left_after (has_played (Ok t)) (bytes_of (rows_played h f)) d)
+    × StandsFirst (indices_of (refused_in h f)) i (left_after (has_played (Ok t)) (indices_of (refused_in h f)) i)
+    × StandsFirst (numbers_of (refused_in h f)) m (left_after (has_played (Ok t)) (numbers_of (refused_in h f)) m)
+LeftByPlay (Err r) h f d i m = (left_after (has_played (Err r)) (bytes_of (rows_played h f)) d ≡ d) × (left_after (has_played (Err r)) (indices_of (refused_in h f)) i ≡ i) × (left_after (has_played (Err r)) (numbers_of (refused_in h f)) m ≡ m)
 
 abbrev pub PlayLeaves : Type 0
 PlayLeaves = (h f d i m : List ℕ) → LeftByPlay (play_call h f (length d) (length i) (length m)) h f d i m

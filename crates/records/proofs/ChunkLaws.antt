@@ -1,11 +1,16 @@
 -- A list in parts: the laws of a loop that begins with all of them, takes part i off at each turn, and ends with none.
 use Prim.Native.Nat.{ℕ, zero, suc, ◌+◌, ◌-◌, ◌*◌, ◌/◌, ◌≤◌, ◌<◌}
 use mathlib.Core.Path.{◌≡◌, refl, sym, ap, ◌∙◌}
+use mathlib.Core.Bool.{true, false}
+use lib.Dec.{ltb}
+use borrow.Author.Tests.{ltb-true, ltb-false}
 use mathlib.Core.List.{List, [], ◌∷◌, ◌++◌, map}
 use lib.ListN.{length, get_or, take, drop, length-append, length-map, length-take, length-drop}
 use lib.Seq.{drop-drop, take_all, take-append-le, drop-append-le}
 use native.Mathlib.Nat.{mul-add, mul-one, mul-zero, sub-zero, add-sub_cancel_left, not-suc-le-zero, le_of_suc-le-suc, mul-suc, add_comm, suc-add, zero-add}
 use native.Mathlib.Omega.{arith}
+use Rattle.std.proofs.lemmas.List.{get_or_default}
+use Rattle.std.specs.Simd.{first_chunks}
 use Rattle.records.specs.Lists.{All}
 use Rattle.records.specs.Steps.Rest.{chunks_from}
 use Rattle.records.specs.Chunks.{chunks, chunk_at, records_of}
@@ -26,6 +31,12 @@ unfolding chunks chunks_from
 chunks_none size n i xs h =
     let e : n - i ≡ 0 = omega arith in
     simp e
+
+-- the parts that std cuts a slice into
+pub chunks_are : (size n : ℕ) (xs : List ℕ) → first_chunks size n xs ≡ chunks size n xs
+unfolding chunks
+chunks_are size zero xs = refl
+chunks_are size (suc n) xs = rw (chunks_are size n (drop size xs))
 
 -- one part more behind the others
 pub chunks_more : (size n : ℕ) (xs : List ℕ) → chunks size (n + 1) xs ≡ chunks size n xs ++ chunk_at size xs n ∷ []
@@ -109,6 +120,28 @@ module _ (xs : List ℕ) (i : ℕ) where
 
   pub record_past : length xs / 32 ≤ i → length (chunk_at 32 xs i) < 32
   record_past h = simp (length-take, length-drop) (omega arith)
+
+-- a table's records looked up by `get` or by an index that is known to be right
+module _ (xs : List ℕ) (records : List (List ℕ)) (e : records ≡ records_of xs) (i : ℕ) where
+  pub records_many : length records ≡ length xs / 32
+  records_many = rw e (length_chunks 32 (length xs / 32) xs)
+
+  pub record_there : i < length records → (part : List ℕ) → part ≡ get_or records i part → part ≡ chunk_at 32 xs i
+  record_there h part g =
+      let q : length (records_of xs) ≡ length xs / 32 = length_chunks 32 (length xs / 32) xs in
+      let many : i < length xs / 32 = omega (arith, records_many) in
+      g ∙ ap (λ (l : List (List ℕ)). get_or l i part) e ∙ get_or_default (records_of xs) i part [] (omega arith) ∙ get_or_chunks 32 (length xs / 32) i xs many
+
+  -- of record i, and past the last
+  pub get_record : true ≡ ltb i (length records) → (part : List ℕ) → part ≡ get_or records i part → (part ≡ chunk_at 32 xs i) × (32 ≤ length (chunk_at 32 xs i))
+  get_record t part g =
+      let h : i < length records = ltb-true i (length records) (sym t) in
+      (record_there h part g, record_whole xs i (omega (arith, records_many)))
+
+  pub get_no_record : false ≡ ltb i (length records) → length (chunk_at 32 xs i) < 32
+  get_no_record t =
+      let h : length records ≤ i = ltb-false i (length records) (sym t) in
+      record_past xs i (omega (arith, records_many))
 
 module _ {A : Type 0} (read : List ℕ → A) (xs : List ℕ) where
   -- those from record i on

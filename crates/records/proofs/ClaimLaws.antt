@@ -21,6 +21,10 @@ pub length_claim_bytes : (c : Claim) → length (claim_bytes c) ≡ 32
 unfolding claim_bytes le_bytes
 length_claim_bytes c = refl
 
+-- a claim all of whose fields are zero, as the one that its type has by default
+pub claim_blank : (c : Claim) → (c.group ≡ 0) × (c.margin ≡ 0) → c ≡ record { group = 0; margin = 0 }
+claim_blank c e = λ i. record { group = e.0 i; margin = e.1 i }
+
 module _ (c : Claim) (r : ClaimRanges c) where
   fields_back : claim_fields (claim_bytes c) ≡ c
   unfolding claim_fields claim_bytes le_bytes le_at

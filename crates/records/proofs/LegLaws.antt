@@ -2,7 +2,7 @@
 use Prim.Native.Nat.{ℕ, ◌+◌, ◌*◌, ◌/◌, ◌%◌, ◌≤◌}
 use mathlib.Core.Path.{◌≡◌, refl}
 use mathlib.Core.Bool.{Bool, true, false, cond, ◌&&◌, and-eq-true_iff}
-use mathlib.Core.List.{List}
+use mathlib.Core.List.{List, []}
 use native.Mathlib.Omega.{arith}
 use lib.Dec.{eqb}
 use lib.ListN.{length}
@@ -23,6 +23,26 @@ four n = omega arith
 
 one : (n : ℕ) → n + 256 * 0 ≡ n
 one n = omega arith
+
+-- a leg all of whose fields are zero, as the one that its type has by default
+pub leg_blank : (l : Leg) → (l.group ≡ 0) × ((l.side ≡ 0) × ((l.right ≡ 0) × ((l.style ≡ 0) × ((l.market ≡ 0) × ((l.size ≡ 0) × ((l.underlying ≡ 0) × ((l.strike ≡ 0) × ((l.expiry ≡ 0) × ((l.contracts.0 ≡ 0) × ((l.settlement ≡ 0) × (l.paid ≡ 0)))))))))))
+    → l ≡ leg_fields []
+unfolding leg_fields le_at
+leg_blank l e =
+    λ i. record {
+      group = e.0 i;
+      side = e.1.0 i;
+      right = e.1.1.0 i;
+      style = e.1.1.1.0 i;
+      market = e.1.1.1.1.0 i;
+      size = e.1.1.1.1.1.0 i;
+      underlying = e.1.1.1.1.1.1.0 i;
+      strike = e.1.1.1.1.1.1.1.0 i;
+      expiry = e.1.1.1.1.1.1.1.1.0 i;
+      contracts = record { 0 = e.1.1.1.1.1.1.1.1.1.0 i };
+      settlement = e.1.1.1.1.1.1.1.1.1.1.0 i;
+      paid = e.1.1.1.1.1.1.1.1.1.1.1 i;
+    }
 
 pub length_leg_bytes : (l : Leg) → length (leg_bytes l) ≡ 32
 unfolding leg_bytes le_bytes

@@ -9,6 +9,7 @@ pub mod Cuts
 pub mod LowestLaws
 -- numbers and records as bytes
 pub mod ByteLaws
+pub mod WordLaws
 pub mod NumberLaws
 pub mod SameLaws
 pub mod LineLaws
@@ -24,3 +25,4 @@ pub mod OutcomeLaws
 -- the crate's own
 mod DateLaws
 mod Unique
+pub mod ErrorLaws

@@ -1,4 +1,5 @@
 -- Nothing is refused just where every check holds.
+use Rattle.std.specs.Prelude.{Ok, Err}
 use Prim.Native.Nat.{ℕ, zero, suc, ◌+◌, ◌≤◌}
 use mathlib.Core.Path.{◌≡◌, refl}
 use mathlib.Core.Bool.{Bool, true, false, cond}
@@ -8,33 +9,32 @@ use native.Mathlib.Omega.{arith}
 use Rattle.records.specs.Lists.{All}
 use Rattle.records.specs.Order.{Check, first_of, ask_each, groups}
 use Rattle.records.specs.declared.refusals.Refusal.{Refusal}
-use Rattle.records.specs.declared.refusals.Fault.TheVariants.{Nothing, Is}
 use Rattle.records.proofs.ListLaws.{all_append}
 
 abbrev pub Pass : List Check → Type 0
 Pass cs = All (λ c. c.holds ≡ true) cs
 
-pub clear : (cs : List Check) → first_of cs ≡ Nothing → Pass cs
+pub clear : (cs : List Check) → first_of cs ≡ Ok tt → Pass cs
 unfolding first_of
 clear [] e = tt
 clear (c ∷ cs) e = go c.holds refl e (clear cs)
   where
-    go : (b : Bool) → c.holds ≡ b → cond b (first_of cs) (Is c.refusal) ≡ Nothing → (first_of cs ≡ Nothing → Pass cs) → Pass (c ∷ cs)
+    go : (b : Bool) → c.holds ≡ b → cond b (first_of cs) (Err c.refusal) ≡ Ok tt → (first_of cs ≡ Ok tt → Pass cs) → Pass (c ∷ cs)
     go true q r f = (q, f r)
     go false q r f = let z : ◌≡◌ {A = ℕ} 0 1 = cc in absurd (omega arith)
 
-pub unclear : (cs : List Check) → Pass cs → first_of cs ≡ Nothing
+pub unclear : (cs : List Check) → Pass cs → first_of cs ≡ Ok tt
 unfolding first_of
 unclear [] a = refl
 unclear (c ∷ cs) a = rw a.0 (unclear cs a.1)
 
 -- what holds of the refusal of each check that fails holds of the first
-pub first_all : (P : Refusal → Type 0) (cs : List Check) → All (λ c. c.holds ≡ false → P c.refusal) cs → (r : Refusal) → first_of cs ≡ Is r → P r
+pub first_all : (P : Refusal → Type 0) (cs : List Check) → All (λ c. c.holds ≡ false → P c.refusal) cs → (r : Refusal) → first_of cs ≡ Err r → P r
 unfolding first_of
 first_all P [] a r e = let z : ◌≡◌ {A = ℕ} 0 1 = cc in absurd (omega arith)
 first_all P (c ∷ cs) a r e = go c.holds refl e (first_all P cs a.1 r)
   where
-    go : (b : Bool) → c.holds ≡ b → cond b (first_of cs) (Is c.refusal) ≡ Is r → (first_of cs ≡ Is r → P r) → P r
+    go : (b : Bool) → c.holds ≡ b → cond b (first_of cs) (Err c.refusal) ≡ Err r → (first_of cs ≡ Err r → P r) → P r
     go true q x f = f x
     go false q x f = let s : c.refusal ≡ r = cc in rw s at (a.0 q)
 

@@ -55,6 +55,11 @@ module _ {A : Type 0} where
       rw (drop_at (take at d ++ p) (drop (at + length p) d) a front, drop-drop k (at + length p) d, ek, length-append p s, add_assoc) in
       rw (take_at (take at d ++ p) (drop (at + length p) d) a front, rest) (simp append_assoc)
 
+  -- a part `[at..at + k]` that was lent and filled, as by `copy_from_slice`
+  pub put_part : (d : List A) (at k : ℕ) (s : List A) → k ≡ length s → put_mid at k d s ≡ put_at d at s
+  unfolding put_at
+  put_part d at k s e = rw (drop-drop k at d, e) (simp append_assoc)
+
   -- what is written after what is written is written together
   pub put_put : (d p s : List A) (at k : ℕ) → at ≤ length d → k ≡ at + length p → put_at (put_at d at p) k s ≡ put_at d at (p ++ s)
   unfolding put_at

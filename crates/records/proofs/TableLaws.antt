@@ -1,4 +1,5 @@
 -- A table that passed its check: how long it is, and the bounds of each field of each leg and claim.
+use Rattle.std.specs.Prelude.{Ok}
 use Prim.Native.Nat.{ℕ, ◌/◌, ◌%◌, ◌≤◌, ◌<◌}
 use mathlib.Core.Path.{◌≡◌}
 use mathlib.Core.Bool.{true, and-eq-true_iff}
@@ -19,7 +20,6 @@ use Rattle.records.specs.Order.{first_of}
 use Rattle.records.specs.Tables.{good_record, limit_of, table_number, whole_table, field_checks, legs_of, claims_of}
 use Rattle.records.specs.declared.legs.Leg.{Leg}
 use Rattle.records.specs.declared.claims.Claim.{Claim}
-use Rattle.records.specs.declared.refusals.Fault.TheVariants.{Nothing}
 use Rattle.records.specs.declared.tables.Kind.{Kind}
 use Rattle.records.specs.declared.tables.Kind.TheVariants.{Placement}
 use Rattle.records.proofs.ListLaws.{map_all}
@@ -131,16 +131,16 @@ whole kind bytes e =
     let p = (and-eq-true_iff (eqb (bytes % 32) 0) (leb (bytes / 32) (limit_of kind))).0 e in
     (eqb-true (bytes % 32) 0 p.0, leb-true (bytes / 32) (limit_of kind) p.1)
 
-pub fields_good : (kind : Kind) (xs : List ℕ) → first_of (field_checks kind xs) ≡ Nothing → All (λ r. good_record kind r ≡ true) (records_of xs)
+pub fields_good : (kind : Kind) (xs : List ℕ) → first_of (field_checks kind xs) ≡ Ok tt → All (λ r. good_record kind r ≡ true) (records_of xs)
 unfolding field_checks
 fields_good kind xs e = pass_each (good_record kind) 4 (table_number kind) 0 (records_of xs) (clear _ e)
 
 -- record i of such a table
-pub record_good : (kind : Kind) (xs : List ℕ) (i : ℕ) → first_of (field_checks kind xs) ≡ Nothing → i < length xs / 32 → good_record kind (chunk_at 32 xs i) ≡ true
+pub record_good : (kind : Kind) (xs : List ℕ) (i : ℕ) → first_of (field_checks kind xs) ≡ Ok tt → i < length xs / 32 → good_record kind (chunk_at 32 xs i) ≡ true
 record_good kind xs i e h =
     all_chunk (λ r. good_record kind r ≡ true) 32 (length xs / 32) i xs h (fields_good kind xs e)
 
 -- the bounds of every leg of a placement whose fields are in range
-pub placement_ranges : (xs : List ℕ) → first_of (field_checks Placement xs) ≡ Nothing → All (Ranges 32) (legs_of xs)
+pub placement_ranges : (xs : List ℕ) → first_of (field_checks Placement xs) ≡ Ok tt → All (Ranges 32) (legs_of xs)
 unfolding legs_of
 placement_ranges xs e = map_all leg_of (Ranges 32) (λ r. good_leg 32 r ≡ true) (records_of xs) (good_ranges 32) (fields_good Placement xs e)

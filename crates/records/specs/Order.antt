@@ -1,8 +1,6 @@
 -- 'Refusals in their order': an order of refusals is a list of checks, and the answer is the first that fails.
-use Rattle.std.specs.Prelude.{Bool, cond, List, [], ◌∷◌, ◌++◌, ℕ, zero, suc, ◌+◌}
+use Rattle.std.specs.Prelude.{Bool, cond, List, [], ◌∷◌, ◌++◌, ℕ, zero, suc, ◌+◌, Result, Ok, Err}
 use Rattle.records.specs.declared.refusals.Refusal.{Refusal}
-use Rattle.records.specs.declared.refusals.Fault.{Fault}
-use Rattle.records.specs.declared.refusals.Fault.TheVariants.{Nothing, Is}
 
 -- what is asked, and the refusal where it does not hold
 pub record Check : Type 0 where
@@ -17,9 +15,9 @@ abbrev pub ask : Bool → ℕ → ℕ → ℕ → Check
 ask holds number table place = record { holds = holds; refusal = refuse number table place }
 
 -- the refusal of the first check that does not hold
-unfoldable pub first_of : List Check → Fault
-first_of [] = Nothing
-first_of (c ∷ cs) = cond c.holds (first_of cs) (Is c.refusal)
+unfoldable pub first_of : List Check → Result Unit Refusal
+first_of [] = Ok tt
+first_of (c ∷ cs) = cond c.holds (first_of cs) (Err c.refusal)
 
 -- one check of each element, whose place is its index, counted from i
 module _ {A : Type 0} where

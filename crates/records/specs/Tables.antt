@@ -1,5 +1,5 @@
 -- The three tables: which number each has, how many records it may have, what a record of it is.
-use Rattle.std.specs.Prelude.{ℕ, ◌/◌, ◌%◌, Bool, not, ◌&&◌, List, ◌∷◌, ◌++◌, map, eqb, leb, length}
+use Rattle.std.specs.Prelude.{ℕ, ◌/◌, ◌%◌, Bool, not, ◌&&◌, List, ◌∷◌, ◌++◌, map, eqb, leb, length, Result, Ok, Err}
 use Rattle.records.specs.Chunks.{records_of}
 use Rattle.records.specs.Limits.{record_bytes, most_claims, most_groups}
 pub use Rattle.records.specs.Limits.{most_legs}
@@ -8,12 +8,9 @@ use Rattle.records.specs.Claims.{claim_of, good_claim}
 use Rattle.records.specs.Order.{Check, ask, ask_each, first_of}
 use Rattle.records.specs.declared.legs.Leg.{Leg}
 use Rattle.records.specs.declared.claims.Claim.{Claim}
-use Rattle.records.specs.declared.refusals.Fault.{Fault}
-use Rattle.records.specs.declared.refusals.Fault.TheVariants.{Nothing, Is}
 use Rattle.records.specs.declared.tables.Kind.{Kind}
 use Rattle.records.specs.declared.tables.Kind.TheVariants.{Holdings, Placement, Claims}
-use Rattle.records.specs.declared.tables.Counted.{Counted}
-use Rattle.records.specs.declared.tables.Counted.TheVariants.{Records, Refused}
+use Rattle.records.specs.declared.refusals.Refusal.{Refusal}
 
 -- 'table (0 none, 1 holdings, 2 placement, 3 claims)'
 abbrev pub table_number : Kind → ℕ
@@ -61,11 +58,11 @@ unfoldable pub table_checks : Kind → List ℕ → List Check
 table_checks kind xs = ask (whole_table kind (length xs)) 1 0 0 ∷ field_checks kind xs
 
 -- what the answer `Counted` says of each case: the refusal, or how many records
-abbrev pub check_answer : Fault → ℕ → Counted
-check_answer Nothing n = Records n
-check_answer (Is r) n = Refused r
+abbrev pub check_answer : Result Unit Refusal → ℕ → Result ℕ Refusal
+check_answer (Ok _) n = Ok n
+check_answer (Err r) n = Err r
 
-unfoldable pub check_call : Kind → List ℕ → Counted
+unfoldable pub check_call : Kind → List ℕ → Result ℕ Refusal
 check_call kind xs = check_answer (first_of (table_checks kind xs)) (length xs / record_bytes)
 
 -- ---- a table as a list

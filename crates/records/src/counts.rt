@@ -3,10 +3,10 @@
 ghost use Rattle.std.specs.Prelude.{◌≡◌};
 ghost use Rattle.records.specs.Legs.{contracts_from, units_of, plus_units, no_units, plus_contracts};
 
-#[derive(Clone, Copy)]
+#[derive(Clone, Copy, PartialEq, Eq, Default)]
 pub struct Contracts(pub(crate) u32);
 
-#[derive(Clone, Copy)]
+#[derive(Clone, Copy, PartialEq, Eq)]
 pub struct Units(u64);
 
 impl Contracts {
@@ -34,12 +34,7 @@ impl Contracts {
     pub fn plus(self, more: Contracts) -> Contracts
         ensures { result ≡ plus_contracts self more }
     {
-        let a = self.0;
-        let added = more.0;
-        if added <= 4294967295 - a {
-            return Contracts(a + added);
-        }
-        Contracts(4294967295)
+        Contracts(self.0.saturating_add(more.0))
     }
 }
 
@@ -55,12 +50,7 @@ impl Units {
     pub fn plus(self, more: Units) -> Units
         ensures { result ≡ plus_units self more }
     {
-        let a = self.0;
-        let b = more.0;
-        if b <= 18446744073709551615 - a {
-            return Units(a + b);
-        }
-        Units(18446744073709551615)
+        Units(self.0.saturating_add(more.0))
     }
 
     pub fn number(self) -> u64

@@ -26,10 +26,7 @@ fn february(year: u32) -> u32
 fn days_in(year: u32, month: u32) -> u32
     ensures { result ≡ days_in year month }
 {
-    if month < 1 {
-        return 0;
-    }
-    if 12 < month {
+    if !is_within(1, 12, month) {
         return 0;
     }
     if month == 2 {

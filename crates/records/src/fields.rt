@@ -1,45 +1,37 @@
-// Little-endian numbers in a record's part of the caller's slice.
-ghost use Rattle.std.specs.Prelude.{◌≡◌, ◌+◌, ◌≤◌, ◌<◌, length};
-ghost use Rattle.records.specs.Steps.Four.{four_of};
-ghost use Rattle.records.specs.Bytes.{le_at, le_bytes};
+// Little-endian numbers in the bytes of a record, and anywhere in a lent slice.
+ghost use Rattle.std.specs.Prelude.{◌≡◌, ◌+◌, ◌≤◌, take, drop};
+ghost use Rattle.records.specs.Bytes.{le_at};
 
-pub(crate) fn u8_in(part: &[u8], at: usize) -> u8
-    requires { at + 1 ≤ length part.now }
-    ensures { result ≡ le_at part.now at 1 }
+use crate::limits::RECORD_BYTES;
+
+fn bytes_in<const N: usize>(part: &[u8; RECORD_BYTES], at: usize) -> [u8; N]
+    requires { at + N ≤ 32 }
+    ensures { result ≡ take N (drop at part.now) }
 {
-    part[at]
+    let mut bytes = [0; N];
+    bytes.copy_from_slice(&part[at..at + N]);
+    bytes
 }
 
-// Its callers learn that a byte stays below 256.
-fn wide(byte: u8) -> u16
-    ensures { (result ≡ byte) × (result < 256) }
-{
-    byte as u16
-}
-
-pub(crate) fn u16_in(part: &[u8], at: usize) -> u16
-    requires { at + 2 ≤ length part.now }
+pub(crate) fn u16_in(part: &[u8; RECORD_BYTES], at: usize) -> u16
+    requires { at + 2 ≤ 32 }
     ensures { result ≡ le_at part.now at 2 }
 {
-    wide(part[at]) + 256 * wide(part[at + 1])
+    u16::from_le_bytes(bytes_in(part, at))
 }
 
-pub(crate) fn u32_in(part: &[u8], at: usize) -> u32
-    requires { at + 4 ≤ length part.now }
+pub(crate) fn u32_in(part: &[u8; RECORD_BYTES], at: usize) -> u32
+    requires { at + 4 ≤ 32 }
     ensures { result ≡ le_at part.now at 4 }
 {
-    let low = u16_in(part, at);
-    let high = u16_in(part, at + 2);
-    low as u32 + 65536 * (high as u32)
+    u32::from_le_bytes(bytes_in(part, at))
 }
 
-pub(crate) fn u64_in(part: &[u8], at: usize) -> u64
-    requires { at + 8 ≤ length part.now }
+pub(crate) fn u64_in(part: &[u8; RECORD_BYTES], at: usize) -> u64
+    requires { at + 8 ≤ 32 }
     ensures { result ≡ le_at part.now at 8 }
 {
-    let low = u32_in(part, at);
-    let high = u32_in(part, at + 4);
-    low as u64 + 4294967296 * (high as u64)
+    u64::from_le_bytes(bytes_in(part, at))
 }
 
 // The two-byte number at any place of any slice; past the slice's end the bytes count as zero.
@@ -50,23 +42,7 @@ pub fn u16_at(part: &[u8], at: usize) -> u16
         return 0;
     }
     if part.len() - at < 2 {
-        return wide(part[at]);
+        return part[at] as u16;
     }
-    u16_in(part, at)
-}
-
-// Four bytes, by value: a struct of bytes spares the proof an array.
-#[derive(Clone, Copy)]
-pub(crate) struct Four(pub(crate) u8, pub(crate) u8, pub(crate) u8, pub(crate) u8);
-
-// The bytes of a number, lowest first.
-pub(crate) fn u32_bytes(n: u32) -> Four
-    ensures { four_of result ≡ le_bytes n 4 }
-{
-    Four(
-        (n % 256) as u8,
-        (n / 256 % 256) as u8,
-        (n / 256 / 256 % 256) as u8,
-        (n / 256 / 256 / 256) as u8,
-    )
+    u16::from_le_bytes([part[at], part[at + 1]])
 }

@@ -1,4 +1,5 @@
 -- The statements of specs/Demands.antt, proved; those of the list stand in ListedLaws.
+use Rattle.std.specs.Prelude.{Result, Ok, Err}
 use mathlib.Core.Path.{◌≡◌, refl, sym, ap, ◌∙◌}
 use mathlib.Core.Bool.{true, not}
 use mathlib.Core.List.{List, [], ◌∷◌, ◌++◌}
@@ -10,8 +11,6 @@ use borrow.Author.Tests.{le-leb}
 use Rattle.records.specs.Bytes.{le_at}
 use Rattle.records.specs.Listed.{indices_of, numbers_of}
 use Rattle.records.specs.Order.{first_of}
-use Rattle.records.specs.declared.refusals.Fault.{Fault}
-use Rattle.records.specs.declared.refusals.Fault.TheVariants.{Nothing, Is}
 use Rattle.records.proofs.ListLaws.{all_map}
 use Rattle.records.proofs.PassLaws.{clear}
 use Rattle.records.proofs.PutLaws.{put_front, left_stands}
@@ -22,25 +21,26 @@ use Rattle.blocks.specs.Block.{form_of, origin_of}
 use Rattle.blocks.specs.File.{tables_of, tables_in, origin_in, file_of, within_limits}
 use Rattle.blocks.specs.RoundTrips.{Reads, Writes}
 use Rattle.blocks.specs.declared.forms.Origin.{Origin}
-use Rattle.blocks.specs.declared.answers.Alone.TheVariants.{Sound}
 use Rattle.blocks.proofs.Laws.{kept_kept, read_writes_back, written_reads_back, is_sound}
 use Rattle.salvage.specs.Pieces.{pieces_of}
 use Rattle.salvage.specs.Kept.{origin_for, kept_in, dropped_in, sound_file}
 use Rattle.salvage.specs.Calls.{salvage_start, salvage_room, salvage_end, salvage_checks, salvage_answer, salvage_call, has_saved}
 use Rattle.salvage.specs.Demands.{ComesOutSound, KeptAreSound, UndamagedSame, TwiceSame, LeftBySalvage, SalvageLeaves}
 use Rattle.salvage.specs.Steps.AllKept.{AllKept}
-use Rattle.salvage.specs.declared.calls.Salvaged.{Salvaged}
-use Rattle.salvage.specs.declared.calls.Salvaged.TheVariants.{Saved, Refused}
 use Rattle.salvage.proofs.SoundLaws.{kept_is}
 use Rattle.salvage.proofs.KeptTables.{kept_all, writes_kept}
 use Rattle.salvage.proofs.CallLaws.{within_is, salvage_rest, end_rest}
 use Rattle.salvage.proofs.Undamaged.{all_kept, none_dropped, some_blocks, sound_again, limits_kept, bytes_few}
+use Rattle.records.specs.declared.refusals.Refusal.{Refusal}
+use Rattle.salvage.specs.declared.calls.Saved.{Saved}
+use Rattle.salvage.specs.Calls.{saved}
 
 -- ---- what a salvage that is not refused says
 
-answered_saved : (x : Fault) (a b n k : ℕ) → salvage_answer x a b ≡ Saved n k → (x ≡ Nothing) × (a ≡ n) × (b ≡ k)
-answered_saved Nothing a b n k e = (refl, cc, cc)
-answered_saved (Is r) a b n k e = absurd (let z : ◌≡◌ {A = ℕ} 0 1 = cc in omega arith)
+answered_saved : (x : Result Unit Refusal) (a b n k : ℕ) → salvage_answer x a b ≡ Ok (saved n k) → (x ≡ Ok tt) × (a ≡ n) × (b ≡ k)
+answered_saved (Ok _) a b n k e =
+    let same : saved a b ≡ saved n k = cc in (refl, ap (λ (s : Saved). s.bytes) same, ap (λ (s : Saved). s.entries) same)
+answered_saved (Err r) a b n k e = absurd (let z : ◌≡◌ {A = ℕ} 0 1 = cc in omega arith)
 
 not_none : (n : ℕ) → not (eqb n 0) ≡ true → 1 ≤ n
 not_none zero e = absurd (let z : ◌≡◌ {A = ℕ} 0 1 = cc in omega arith)
@@ -52,7 +52,7 @@ record Passes (bytes : List ℕ) (n k : ℕ) : Type 0 where
   size : length (sound_file bytes) ≡ n
   entries : length (dropped_in bytes) ≡ k
 
-saved_passes : (bytes : List ℕ) (o i m n k : ℕ) → salvage_call bytes o i m ≡ Saved n k → Passes bytes n k
+saved_passes : (bytes : List ℕ) (o i m n k : ℕ) → salvage_call bytes o i m ≡ Ok (saved n k) → Passes bytes n k
 unfolding salvage_call salvage_checks salvage_start salvage_end
 saved_passes bytes o i m n k e =
     let start = salvage_start (length bytes) (kept_in bytes) in
@@ -102,7 +102,7 @@ comes_out_sound bytes o i m n k e = sound_out bytes n k (saved_passes bytes o i 
 
 kept_are_sound : KeptAreSound
 kept_are_sound bytes =
-    all_map (kept_in bytes) (λ b e. let s = kept_is (origin_for bytes) b e in is_sound b s.0 ∙ ap Sound s.1) (kept_in_all bytes)
+    all_map (kept_in bytes) (λ b e. let s = kept_is (origin_for bytes) b e in is_sound b s.0 ∙ ap Ok s.1) (kept_in_all bytes)
 
 -- ---- a file that the reader takes
 
@@ -111,7 +111,7 @@ module _ (f : List ℕ) (r : Reads f) (back : file_of (origin_in f) (tables_in f
   same_out : sound_file f ≡ f
   same_out = sound_again f r ∙ back
 
-  saved_same : salvage_call f o i m ≡ Saved (length f) 0
+  saved_same : salvage_call f o i m ≡ Ok (saved (length f) 0)
   unfolding salvage_room first_of
   saved_same =
       let few = bytes_few f r in
@@ -141,7 +141,7 @@ twice_same bytes out i m n k e room x y h =
     let r = (sound_out bytes n k p).0 in
     let back = sound_back bytes n k p in
     let fits : length f ≤ room = omega (arith, h, p.size) in
-    let file : take n (left_after (has_saved (Saved n k)) f out) ≡ f = rw (← p.size) (put_front out f) in
+    let file : take n (left_after (has_saved (Ok (saved n k))) f out) ≡ f = rw (← p.size) (put_front out f) in
     rw (file, ← p.size) (saved_same f r back room x y fits, same_out f r back room x y fits, none_dropped f r)
 
 -- ---- lent memory
@@ -149,8 +149,8 @@ twice_same bytes out i m n k e room x y h =
 salvage_leaves : SalvageLeaves
 salvage_leaves bytes d i m = go (salvage_call bytes (length d) (length i) (length m)) refl
   where
-    go : (r : Salvaged) → salvage_call bytes (length d) (length i) (length m) ≡ r → LeftBySalvage r bytes d i m
-    go (Saved n k) e =
-        let p = saved_passes bytes (length d) (length i) (length m) n k e in
+    go : (r : Result Saved Refusal) → salvage_call bytes (length d) (length i) (length m) ≡ r → LeftBySalvage r bytes d i m
+    go (Ok s) e =
+        let p = saved_passes bytes (length d) (length i) (length m) s.bytes s.entries e in
         (p.size, p.entries, left_stands d (sound_file bytes), left_stands i (indices_of (dropped_in bytes)), left_stands m (numbers_of (dropped_in bytes)))
-    go (Refused r) e = (refl, refl, refl)
+    go (Err r) e = (refl, refl, refl)

@@ -1,4 +1,5 @@
 -- The tables of kept blocks: the writer takes them, where they are within their limits.
+use Rattle.std.specs.Prelude.{Ok}
 use mathlib.Core.Path.{◌≡◌, refl}
 use mathlib.Core.Bool.{Bool, true, false, cond}
 use mathlib.Core.List.{List, [], ◌∷◌}
@@ -9,7 +10,6 @@ use borrow.Author.Tests.{eq-eqb, eqb-true}
 use Rattle.records.specs.Lists.{All, keep, sum_of}
 use Rattle.records.specs.Order.{first_of}
 use Rattle.records.specs.Tables.{table_number, in_limit, whole_table, whole_tables}
-use Rattle.records.specs.declared.refusals.Fault.TheVariants.{Nothing}
 use Rattle.records.specs.declared.tables.Kind.{Kind}
 use Rattle.records.specs.declared.tables.Kind.TheVariants.{Holdings, Placement, Claims}
 use Rattle.records.proofs.ListLaws.{all_map}
@@ -91,7 +91,7 @@ lead_named lead (b ∷ bs) a h = let k = kept_is lead b a.0 in rw k.1 at k.0.acc
 
 -- the writer has no refusal but 17
 pub writes_kept : (lead : Origin) (bs : List (List ℕ)) → AllKept lead bs → 1 ≤ length bs → within_limits bs ≡ true
-    → first_of (write_checks lead (tables_of bs)) ≡ Nothing
+    → first_of (write_checks lead (tables_of bs)) ≡ Ok tt
 unfolding write_checks taken_tables tables_of
 writes_kept lead bs a n w =
     let sound = kept_sound lead bs a in

@@ -1,4 +1,5 @@
 -- What a block is that is kept.
+use Rattle.std.specs.Prelude.{Result, Ok, Err}
 use mathlib.Core.Path.{◌≡◌, refl}
 use mathlib.Core.Bool.{Bool, true, false, cond, false≢true, and-eq-true_iff}
 use mathlib.Core.List.{List}
@@ -8,15 +9,12 @@ use lib.Dec.{eqb}
 use borrow.Author.Tests.{eqb-true, eq-eqb}
 use Rattle.records.specs.Order.{first_of}
 use Rattle.records.specs.declared.refusals.Refusal.{Refusal}
-use Rattle.records.specs.declared.refusals.Fault.{Fault}
-use Rattle.records.specs.declared.refusals.Fault.TheVariants.{Nothing, Is}
 use Rattle.blocks.specs.Forms.{form_number, same_form, origin}
 use Rattle.blocks.specs.Block.{origin_of}
 use Rattle.blocks.specs.Alone.{alone_checks, alone_answer, alone_call}
 use Rattle.blocks.specs.declared.forms.Form.{Form}
 use Rattle.blocks.specs.declared.forms.Form.TheVariants.{Old, New}
 use Rattle.blocks.specs.declared.forms.Origin.{Origin}
-use Rattle.blocks.specs.declared.answers.Alone.TheVariants.{Refused}
 use Rattle.blocks.proofs.Laws.{SoundAlone, sound_is, is_sound, refused_numbered}
 use Rattle.salvage.specs.Kept.{same_origin, number_by, drop_number}
 
@@ -43,7 +41,7 @@ cond_zero : (t : Bool) → ◌≡◌ {A = ℕ} (cond t 0 20) 0 → t ≡ true
 cond_zero true e = refl
 cond_zero false e = absurd (omega arith)
 
-refused_as : (b : List ℕ) (r : Refusal) → first_of (alone_checks b) ≡ Is r → alone_call b ≡ Refused r
+refused_as : (b : List ℕ) (r : Refusal) → first_of (alone_checks b) ≡ Err r → alone_call b ≡ Err r
 unfolding alone_call
 refused_as b r e = rw e
 
@@ -52,9 +50,9 @@ pub kept_is : (lead : Origin) (b : List ℕ) → drop_number lead b ≡ 0 → So
 unfolding drop_number alone_call
 kept_is lead b e = go (first_of (alone_checks b)) refl e
   where
-    go : (f : Fault) → first_of (alone_checks b) ≡ f → number_by (alone_answer f (origin_of b)) lead ≡ 0 → SoundAlone b × (origin_of b ≡ lead)
-    go Nothing q z = (sound_is b q, origin_same (origin_of b) lead (cond_zero (same_origin (origin_of b) lead) z))
-    go (Is r) q z = absurd (omega (arith, z, refused_numbered b r (refused_as b r q)))
+    go : (f : Result Unit Refusal) → first_of (alone_checks b) ≡ f → number_by (alone_answer f (origin_of b)) lead ≡ 0 → SoundAlone b × (origin_of b ≡ lead)
+    go (Ok _) q z = (sound_is b q, origin_same (origin_of b) lead (cond_zero (same_origin (origin_of b) lead) z))
+    go (Err r) q z = absurd (omega (arith, z, refused_numbered b r (refused_as b r q)))
 
 pub is_kept_lem : (lead : Origin) (b : List ℕ) → SoundAlone b → origin_of b ≡ lead → drop_number lead b ≡ 0
 unfolding drop_number

@@ -1,4 +1,5 @@
 -- A file that the reader takes: every block of it is kept, and nothing is dropped.
+use Rattle.std.specs.Prelude.{Ok, Some}
 use mathlib.Core.Path.{◌≡◌, refl, sym, ap, ◌∙◌}
 use mathlib.Core.Bool.{Bool, true}
 use mathlib.Core.List.{List, [], ◌∷◌}
@@ -13,12 +14,10 @@ use Rattle.records.proofs.ListLaws.{all_map}
 use Rattle.blocks.specs.File.{blocks_of, tables_in, origin_in, file_of, within_limits}
 use Rattle.blocks.specs.RoundTrips.{Reads}
 use Rattle.blocks.specs.declared.forms.Origin.{Origin}
-use Rattle.blocks.specs.declared.answers.Alone.TheVariants.{Sound}
 use Rattle.blocks.proofs.Laws.{whole_file_lem, GoodBlocks, whole_table_lem, read_good, SoundOf, is_sound, file_sound}
 use Rattle.salvage.specs.Pieces.{piece_count, pieces_of}
 use Rattle.salvage.specs.Kept.{lead_of, origin_for, drop_number, is_kept, kept_of, dropped_of, kept_in, dropped_in, sound_file}
 use Rattle.salvage.specs.Steps.AllKept.{AllKept}
-use Rattle.salvage.specs.declared.pieces.Lead.TheVariants.{Of}
 use Rattle.salvage.proofs.SoundLaws.{is_kept_lem}
 use Rattle.salvage.proofs.PieceLaws.{lead_found}
 use Rattle.salvage.proofs.KeptTables.{limits_whole}
@@ -39,9 +38,9 @@ unfolding dropped_of
 dropped_none lead i [] a = refl
 dropped_none lead i (b ∷ bs) a = rw a.0 (dropped_none lead (i + 1) bs a.1)
 
-lead_first : (o : Origin) (bs : List (List ℕ)) → All (SoundOf o) bs → 1 ≤ length bs → lead_of bs ≡ Of o
+lead_first : (o : Origin) (bs : List (List ℕ)) → All (SoundOf o) bs → 1 ≤ length bs → lead_of bs ≡ Some o
 lead_first o [] a h = absurd (omega arith)
-lead_first o (b ∷ bs) a h = lead_found b (b ∷ bs) bs refl o (is_sound b a.0.0 ∙ ap Sound a.0.1)
+lead_first o (b ∷ bs) a h = lead_found b (b ∷ bs) bs refl o (is_sound b a.0.0 ∙ ap Ok a.0.1)
 
 -- ---- the file
 

@@ -1,14 +1,12 @@
 -- What the salvage answers, and what it leaves in the slices that it is lent.
-use Rattle.std.specs.Prelude.{ℕ, Bool, true, false, not, ◌&&◌, List, [], ◌∷◌, ◌++◌, eqb, leb, length}
+use Rattle.std.specs.Prelude.{ℕ, Bool, true, false, not, ◌&&◌, List, [], ◌∷◌, ◌++◌, eqb, leb, length, Result, Ok, Err}
 use Rattle.records.specs.Order.{Check, ask, first_of}
 use Rattle.records.specs.Within.{within}
 use Rattle.blocks.specs.Sizes.{most_file_bytes}
-use Rattle.records.specs.declared.refusals.Fault.{Fault}
-use Rattle.records.specs.declared.refusals.Fault.TheVariants.{Nothing, Is}
 use Rattle.blocks.specs.File.{within_limits}
 use Rattle.salvage.specs.Kept.{kept_in, dropped_in, sound_file}
-use Rattle.salvage.specs.declared.calls.Salvaged.{Salvaged}
-use Rattle.salvage.specs.declared.calls.Salvaged.TheVariants.{Saved, Refused}
+use Rattle.records.specs.declared.refusals.Refusal.{Refusal}
+use Rattle.salvage.specs.declared.calls.Saved.{Saved}
 
 -- ---- 'Refusals, all table 0, with place 0 for the first three'
 
@@ -33,16 +31,19 @@ salvage_checks bytes out indices numbers =
 
 -- ---- the answer: the file's bytes and the list's entries
 
-abbrev pub salvage_answer : Fault → ℕ → ℕ → Salvaged
-salvage_answer Nothing bytes entries = Saved bytes entries
-salvage_answer (Is r) bytes entries = Refused r
+abbrev pub saved : ℕ → ℕ → Saved
+saved bytes entries = record { bytes = bytes; entries = entries }
+
+abbrev pub salvage_answer : Result Unit Refusal → ℕ → ℕ → Result Saved Refusal
+salvage_answer (Ok _) bytes entries = Ok (saved bytes entries)
+salvage_answer (Err r) bytes entries = Err r
 
 -- with lent slices of so many entries
-unfoldable pub salvage_call : List ℕ → ℕ → ℕ → ℕ → Salvaged
+unfoldable pub salvage_call : List ℕ → ℕ → ℕ → ℕ → Result Saved Refusal
 salvage_call bytes out indices numbers =
     salvage_answer (first_of (salvage_checks bytes out indices numbers)) (length (sound_file bytes)) (length (dropped_in bytes))
 
 -- whether the lent slices then have the file and the list, `left_after`
-abbrev pub has_saved : Salvaged → Bool
-has_saved (Saved bytes listed) = true
-has_saved (Refused r) = false
+abbrev pub has_saved : Result Saved Refusal → Bool
+has_saved (Ok s) = true
+has_saved (Err r) = false

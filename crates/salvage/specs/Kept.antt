@@ -1,32 +1,29 @@
 -- Which pieces are kept, which are dropped and with which number, and the file of those that are kept.
-use Rattle.std.specs.Prelude.{ℕ, ◌+◌, Bool, ◌&&◌, cond, List, [], ◌∷◌, ◌++◌, eqb}
+use Rattle.std.specs.Prelude.{ℕ, ◌+◌, Bool, ◌&&◌, cond, List, [], ◌∷◌, ◌++◌, eqb, Result, Ok, Err, Option, Some, None}
 use Rattle.records.specs.Lists.{keep}
 use Rattle.records.specs.Listed.{Entry, entry}
 use Rattle.blocks.specs.Forms.{same_form, in_old}
 use Rattle.blocks.specs.File.{tables_of, file_of}
 use Rattle.blocks.specs.Alone.{alone_call}
 use Rattle.blocks.specs.declared.forms.Origin.{Origin}
-use Rattle.blocks.specs.declared.answers.Alone.{Alone}
-use Rattle.blocks.specs.declared.answers.Alone.TheVariants.{Sound, Refused}
 use Rattle.salvage.specs.Pieces.{pieces_of}
-use Rattle.salvage.specs.declared.pieces.Lead.{Lead}
-use Rattle.salvage.specs.declared.pieces.Lead.TheVariants.{Of, Missing}
+use Rattle.records.specs.declared.refusals.Refusal.{Refusal}
 
 -- ---- 'Form and account are the first kept block's'
 
 -- The first kept block is the first that is sound by itself: none before it is kept, and it is of its own form and account.
-abbrev pub lead_by : Alone → Lead → Lead
-lead_by (Sound o) later = Of o
-lead_by (Refused r) later = later
+abbrev pub lead_by : Result Origin Refusal → Option Origin → Option Origin
+lead_by (Ok o) later = Some o
+lead_by (Err r) later = later
 
-unfoldable pub lead_of : List (List ℕ) → Lead
-lead_of [] = Missing
+unfoldable pub lead_of : List (List ℕ) → Option Origin
+lead_of [] = None
 lead_of (b ∷ bs) = lead_by (alone_call b) (lead_of bs)
 
 -- where no piece is sound none is kept, whatever stands here
-abbrev pub leading : Lead → Origin
-leading (Of o) = o
-leading Missing = in_old
+abbrev pub leading : Option Origin → Origin
+leading (Some o) = o
+leading None = in_old
 
 unfoldable pub origin_for : List ℕ → Origin
 origin_for bytes = leading (lead_of (pieces_of bytes))
@@ -38,9 +35,9 @@ same_origin a b = same_form a.form b.form && eqb a.account b.account
 
 -- 'each with the first of 2, 3, 4, 20 that applies', 'a torn last block as 1'; 0 where it is kept. 20 is 'a new-form block with
 -- account zero', which is not sound by itself, 'or a block of another form or account'.
-abbrev pub number_by : Alone → Origin → ℕ
-number_by (Sound o) lead = cond (same_origin o lead) 0 20
-number_by (Refused r) lead = r.number
+abbrev pub number_by : Result Origin Refusal → Origin → ℕ
+number_by (Ok o) lead = cond (same_origin o lead) 0 20
+number_by (Err r) lead = r.number
 
 unfoldable pub drop_number : Origin → List ℕ → ℕ
 drop_number lead b = number_by (alone_call b) lead

@@ -1,10 +1,8 @@
 // The salvage of a damaged file.
-ghost use Rattle.std.specs.Prelude.{◌≡◌, ◌≤◌, length};
+ghost use Rattle.std.specs.Prelude.{◌≡◌, ◌≤◌, length, Ok, Some};
 ghost use Rattle.records.specs.Listed.{indices_of, numbers_of};
 ghost use Rattle.records.specs.Order.{refuse, first_of};
 ghost use Rattle.records.specs.Written.{left_after};
-ghost use Rattle.blocks.specs.Sizes.{most_file_bytes};
-ghost use Rattle.records.specs.declared.refusals.Fault.TheVariants.{Nothing};
 ghost use Rattle.blocks.specs.File.{tables, tables_in, blocks_of, file_of};
 ghost use Rattle.blocks.specs.Writer.{write_checks};
 ghost use Rattle.salvage.specs.Pieces.{pieces_of};
@@ -12,56 +10,53 @@ ghost use Rattle.salvage.specs.Kept.{lead_of, dropped_in, sound_file};
 ghost use Rattle.salvage.specs.Calls.{salvage_room, salvage_call, has_saved};
 ghost use Rattle.salvage.specs.Steps.AllKept.{AllKept};
 ghost use Rattle.salvage.specs.Steps.Saving.{saved_answer, kept_answer};
-ghost use Rattle.salvage.specs.declared.pieces.Lead.TheVariants.{Of};
 
-use crate::bytes::copy_indices;
-use crate::pieces::{Lead, find_lead};
+use crate::pieces::Pieces;
 use crate::sorter::sort_pieces;
 use blocks::{BLOCK_BYTES, MOST_FILE_BYTES, Origin};
-use records::{Fault, Kind, MOST_CLAIMS, MOST_LEGS, RECORD_BYTES, Refusal};
+use records::{Kind, MOST_CLAIMS, MOST_LEGS, RECORD_BYTES, Refusal};
 
-// The bytes of the sound file and the entries of the list, or why nothing is written.
+// The bytes of the sound file and the entries of the list.
 #[derive(Clone, Copy)]
-pub enum Salvaged {
-    Saved(usize, usize),
-    Refused(Refusal),
+pub struct Saved {
+    pub bytes: usize,
+    pub entries: usize,
 }
 
 const MOST_PIECES: usize = MOST_FILE_BYTES / BLOCK_BYTES;
 
-// A refusal with table and place 0.
-fn refused(number: u8) -> Salvaged
-    ensures { result ≡ Salvaged.Refused (refuse number 0 0) }
+// A refusal of no table.
+fn refused(number: u8, place: usize) -> Refusal
+    ensures { result ≡ refuse number 0 place }
 {
-    Salvaged::Refused(Refusal {
+    Refusal {
         number,
         table: 0,
-        place: 0,
-    })
+        place,
+    }
 }
 
 // Refusal 17: the file, then the list.
-fn room_fault(bytes: usize, entries: usize, out: usize, indices: usize, numbers: usize) -> Fault
+fn room_fault(
+    bytes: usize,
+    entries: usize,
+    out: usize,
+    indices: usize,
+    numbers: usize,
+) -> Result<(), Refusal>
     ensures { result ≡ first_of (salvage_room bytes entries out indices numbers) }
 {
     if out < bytes {
-        return Fault::Is(Refusal {
-            number: 17,
-            table: 0,
-            place: bytes,
-        });
+        return Err(refused(17, bytes));
     }
     if (entries <= indices) & (entries <= numbers) {
-        return Fault::Nothing;
+        return Ok(());
     }
-    Fault::Is(Refusal {
-        number: 17,
-        table: 0,
-        place: entries,
-    })
+    Err(refused(17, entries))
 }
 
-// Refusal 17, and otherwise the file of three tables, which has no refusal left, and the list.
+// Refusal 17, and otherwise the file of three tables, which has no refusal left, and the list. Index and number stand in
+// two lists, and not in one of pairs, as C lends them to `salvage` (`usm_salvage`).
 fn put_saved(
     holdings: &[u8],
     placement: &[u8],
@@ -72,8 +67,8 @@ fn put_saved(
     out: &mut [u8],
     indices: &mut [u32],
     numbers: &mut [u8],
-) -> Salvaged
-    requires claims_value { first_of (write_checks lead (tables holdings.now placement.now claims.now)) ≡ Nothing }
+) -> Result<Saved, Refusal>
+    requires claims_value { first_of (write_checks lead (tables holdings.now placement.now claims.now)) ≡ Ok tt }
     requires reasons_len { length reasons.now ≡ length dropped.now }
     ensures value { result ≡ saved_answer (file_of lead (tables holdings.now placement.now claims.now))
         dropped.now out.old indices.old numbers.old }
@@ -83,15 +78,15 @@ fn put_saved(
     ensures numbers_after { numbers.new ≡ left_after (has_saved result) reasons.now numbers.old }
 {
     let need = blocks::file_bytes(holdings.len(), placement.len(), claims.len());
-    match room_fault(need, dropped.len(), out.len(), indices.len(), numbers.len()) {
-        Fault::Is(refusal) => Salvaged::Refused(refusal),
-        Fault::Nothing => {
-            blocks::write_file(holdings, placement, claims, lead, out);
-            copy_indices(indices, dropped);
-            records::copy_to(numbers, 0, reasons);
-            Salvaged::Saved(need, dropped.len())
-        }
-    }
+    let entries = dropped.len();
+    room_fault(need, entries, out.len(), indices.len(), numbers.len())?;
+    let _ = blocks::write_file(holdings, placement, claims, lead, out);
+    indices[..entries].copy_from_slice(dropped);
+    numbers[..entries].copy_from_slice(reasons);
+    Ok(Saved {
+        bytes: need,
+        entries,
+    })
 }
 
 // Refusal 3, then 17, of kept blocks that stand one after the other; otherwise their records by kind, in a
@@ -104,7 +99,7 @@ fn save_kept(
     out: &mut [u8],
     indices: &mut [u32],
     numbers: &mut [u8],
-) -> Salvaged
+) -> Result<Saved, Refusal>
     requires all_kept { AllKept lead (blocks_of kept.now) × (1 ≤ length (blocks_of kept.now)) }
     requires reasons_len { length reasons.now ≡ length dropped.now }
     ensures value { result ≡ kept_answer lead kept.now
@@ -119,41 +114,40 @@ fn save_kept(
     let h = blocks::copy_table(kept, Kind::Holdings, &mut holdings);
     let p = blocks::copy_table(kept, Kind::Placement, &mut placement);
     let c = blocks::copy_table(kept, Kind::Claims, &mut claims);
-    if records::whole_tables(h, p, c) {
-        put_saved(
-            &holdings[..h],
-            &placement[..p],
-            &claims[..c],
-            lead,
-            dropped,
-            reasons,
-            out,
-            indices,
-            numbers,
-        )
-    } else {
-        refused(3)
+    if !records::whole_tables(h, p, c) {
+        return Err(refused(3, 0));
     }
+    put_saved(
+        &holdings[..h],
+        &placement[..p],
+        &claims[..c],
+        lead,
+        dropped,
+        reasons,
+        out,
+        indices,
+        numbers,
+    )
 }
 
 // Sorts the pieces into memory of its own, so that nothing lent is written before all is known.
 fn save_pieces(
-    bytes: &[u8],
+    pieces: &Pieces,
     lead: Origin,
     out: &mut [u8],
     indices: &mut [u32],
     numbers: &mut [u8],
-) -> Salvaged
-    requires { (1 ≤ length bytes.now) × (length bytes.now ≤ most_file_bytes) × (lead_of (pieces_of bytes.now) ≡ Of lead) }
-    ensures value { result ≡ salvage_call bytes.now (length out.old) (length indices.old) (length numbers.old) }
-    ensures out_after { out.new ≡ left_after (has_saved result) (sound_file bytes.now) out.old }
-    ensures indices_after { indices.new ≡ left_after (has_saved result) (indices_of (dropped_in bytes.now)) indices.old }
-    ensures numbers_after { numbers.new ≡ left_after (has_saved result) (numbers_of (dropped_in bytes.now)) numbers.old }
+) -> Result<Saved, Refusal>
+    requires { (1 ≤ length pieces.now.bytes.now) × (lead_of (pieces_of pieces.now.bytes.now) ≡ Some lead) }
+    ensures value { result ≡ salvage_call pieces.now.bytes.now (length out.old) (length indices.old) (length numbers.old) }
+    ensures out_after { out.new ≡ left_after (has_saved result) (sound_file pieces.now.bytes.now) out.old }
+    ensures indices_after { indices.new ≡ left_after (has_saved result) (indices_of (dropped_in pieces.now.bytes.now)) indices.old }
+    ensures numbers_after { numbers.new ≡ left_after (has_saved result) (numbers_of (dropped_in pieces.now.bytes.now)) numbers.old }
 {
     let mut kept = [0u8; MOST_FILE_BYTES];
     let mut dropped = [0u32; MOST_PIECES];
     let mut reasons = [0u8; MOST_PIECES];
-    let sorted = sort_pieces(bytes, lead, &mut kept, &mut dropped, &mut reasons);
+    let sorted = sort_pieces(pieces, lead, &mut kept, &mut dropped, &mut reasons);
     let end = BLOCK_BYTES * sorted.kept;
     let entries = sorted.dropped;
     save_kept(
@@ -169,19 +163,25 @@ fn save_pieces(
 
 // Keeps each block of a damaged file that is sound by itself and of the form and account of the first such
 // one. The sound file of their records goes to `out`, the index and the number of each piece that was
-// dropped to the two lists, all from index 0; what lies past them stays. On a refusal nothing is written.
-pub fn salvage(bytes: &[u8], out: &mut [u8], indices: &mut [u32], numbers: &mut [u8]) -> Salvaged
+// dropped to the two lists, all from index 0; what lies past them stays. On a refusal nothing is written. The lists are two,
+// and so is what is made of them before, since C lends them so (`usm_salvage`).
+pub fn salvage(
+    bytes: &[u8],
+    out: &mut [u8],
+    indices: &mut [u32],
+    numbers: &mut [u8],
+) -> Result<Saved, Refusal>
     ensures value { result ≡ salvage_call bytes.now (length out.old) (length indices.old) (length numbers.old) }
     ensures out_after { out.new ≡ left_after (has_saved result) (sound_file bytes.now) out.old }
     ensures indices_after { indices.new ≡ left_after (has_saved result) (indices_of (dropped_in bytes.now)) indices.old }
     ensures numbers_after { numbers.new ≡ left_after (has_saved result) (numbers_of (dropped_in bytes.now)) numbers.old }
 {
-    if (1 <= bytes.len()) & (bytes.len() <= MOST_FILE_BYTES) {
-        match find_lead(bytes) {
-            Lead::Missing => refused(2),
-            Lead::Of(lead) => save_pieces(bytes, lead, out, indices, numbers),
-        }
-    } else {
-        refused(1)
+    if !((1 <= bytes.len()) & (bytes.len() <= MOST_FILE_BYTES)) {
+        return Err(refused(1, 0));
+    }
+    let pieces = Pieces { bytes };
+    match pieces.find_lead() {
+        None => Err(refused(2, 0)),
+        Some(lead) => save_pieces(&pieces, lead, out, indices, numbers),
     }
 }

@@ -2,9 +2,8 @@
 // Document 02, [10]. No public function has a `requires`.
 #![tactic(auto)]
 
-mod bytes;
 mod calls;
 mod pieces;
 mod sorter;
 
-pub use calls::{Salvaged, salvage};
+pub use calls::{Saved, salvage};

@@ -1,4 +1,5 @@
 -- The pass record by record, as a loop that has passed those before record i knows it; and what it does to the legs.
+use Rattle.std.specs.Prelude.{Result, Ok, Err}
 use mathlib.Core.Path.{◌≡◌, refl, sym, ap, ◌∙◌}
 use mathlib.Core.Bool.{Bool, true, false, cond}
 use mathlib.Core.List.{List, [], ◌∷◌, ◌++◌, append_assoc}
@@ -14,12 +15,11 @@ use Rattle.records.specs.Lists.{only, sum_of}
 use Rattle.records.specs.Order.{first_of}
 use Rattle.records.specs.Tables.{table_checks, check_answer, check_call}
 use Rattle.records.specs.Written.{put_at}
-use Rattle.records.specs.declared.refusals.Fault.{Fault}
-use Rattle.records.specs.declared.refusals.Fault.TheVariants.{Nothing, Is}
 use Rattle.records.specs.declared.refusals.Refusal.{Refusal}
-use Rattle.records.specs.declared.tables.Counted.TheVariants.{Records, Refused}
 use Rattle.records.specs.declared.tables.Kind.TheVariants.{Placement}
-use Rattle.records.proofs.ChunkLaws.{rows_from, rows_next, rows_none, part_is, record_size}
+use mir.Val.{bool_byte}
+use Rattle.records.specs.declared.legs.Leg.{Leg}
+use Rattle.records.proofs.ChunkLaws.{first_record, rows_from, rows_next, rows_none, part_is, record_size}
 use Rattle.records.proofs.PassLaws.{clear}
 use Rattle.records.proofs.PutLaws.{put_next, put_past}
 use Rattle.records.proofs.TableLaws.{legs_all, whole}
@@ -35,6 +35,15 @@ length_record r = go (unpaid_long (leg_of r))
     go : (b : Bool) → length (cond b (set r 25 1) r) ≡ length r
     go true = length-set r 25 1
     go false = refl
+
+-- a record of its own, read as the first of a table
+pub record_asked : (r : List ℕ) (l : Leg) → length r ≡ 32 → l ≡ leg_of (chunk_at 32 r 0) → unpaid_long l ≡ unpaid_long (leg_of r)
+record_asked r l e q = ap (λ (x : Leg). unpaid_long x) (q ∙ ap leg_of (first_record r e))
+
+-- a mark set counts as one
+pub counted : (b : Bool) → bool_byte b ≡ only b 1
+counted true = refl
+counted false = refl
 
 pub mark_small : (b : Bool) (r : ℕ) → r ≡ only b 1 → r ≤ 1
 mark_small true r e = omega arith
@@ -117,22 +126,22 @@ module _ {p cur : List ℕ} {marks i : ℕ} (m : Marking p cur marks i) where
 
 -- ---- the answer of the table's check
 
-pub counted_clear : (p : List ℕ) (n : ℕ) → check_call Placement p ≡ Records n → first_of (table_checks Placement p) ≡ Nothing
+pub counted_clear : (p : List ℕ) (n : ℕ) → check_call Placement p ≡ Ok n → first_of (table_checks Placement p) ≡ Ok tt
 unfolding check_call
 counted_clear p n e = go (first_of (table_checks Placement p)) refl e
   where
-    go : (f : Fault) → first_of (table_checks Placement p) ≡ f → check_answer f (length p / 32) ≡ Records n → first_of (table_checks Placement p) ≡ Nothing
-    go Nothing q r = q
-    go (Is x) q r = let z : ◌≡◌ {A = ℕ} 0 1 = cc in absurd (omega arith)
+    go : (f : Result Unit Refusal) → first_of (table_checks Placement p) ≡ f → check_answer f (length p / 32) ≡ Ok n → first_of (table_checks Placement p) ≡ Ok tt
+    go (Ok _) q r = q
+    go (Err x) q r = let z : ◌≡◌ {A = ℕ} 0 1 = cc in absurd (omega arith)
 
-pub counted_refused : (p : List ℕ) (r : Refusal) → check_call Placement p ≡ Refused r → first_of (table_checks Placement p) ≡ Is r
+pub counted_refused : (p : List ℕ) (r : Refusal) → check_call Placement p ≡ Err r → first_of (table_checks Placement p) ≡ Err r
 unfolding check_call
 counted_refused p r e = go (first_of (table_checks Placement p)) refl e
   where
-    go : (f : Fault) → first_of (table_checks Placement p) ≡ f → check_answer f (length p / 32) ≡ Refused r → first_of (table_checks Placement p) ≡ Is r
-    go Nothing q w = let z : ◌≡◌ {A = ℕ} 0 1 = cc in absurd (omega arith)
-    go (Is x) q w = let t : x ≡ r = cc in q ∙ ap Is t
+    go : (f : Result Unit Refusal) → first_of (table_checks Placement p) ≡ f → check_answer f (length p / 32) ≡ Err r → first_of (table_checks Placement p) ≡ Err r
+    go (Ok _) q w = let z : ◌≡◌ {A = ℕ} 0 1 = cc in absurd (omega arith)
+    go (Err x) q w = let t : x ≡ r = cc in q ∙ ap Err t
 
-pub table_few : (p : List ℕ) → first_of (table_checks Placement p) ≡ Nothing → length p ≤ 8192
+pub table_few : (p : List ℕ) → first_of (table_checks Placement p) ≡ Ok tt → length p ≤ 8192
 unfolding table_checks
 table_few p e = let w = whole Placement (length p) (clear _ e).0 in omega (arith, w.0, w.1)

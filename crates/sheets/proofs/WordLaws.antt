@@ -1,7 +1,7 @@
 -- Lines and sides whose fields have room in their two words are the same just where the words are.
 use Prim.Native.Nat.{ℕ, suc, ◌+◌, ◌-◌, ◌*◌, ◌/◌, ◌≤◌, ◌<◌}
 use mathlib.Core.Path.{◌≡◌, refl, sym, ap, ◌∙◌}
-use mathlib.Core.Bool.{Bool, true, false, ◌&&◌, and-eq-true_iff}
+use mathlib.Core.Bool.{Bool, true, false, and-eq-true_iff}
 use mathlib.Core.List.{List}
 use native.Mathlib.Decide.{dec_lt}
 use native.Mathlib.Omega.{arith}
@@ -16,8 +16,8 @@ use Rattle.records.specs.declared.tables.Kind.TheVariants.{Holdings, Placement}
 use Rattle.records.proofs.LineLaws.{same?}
 use Rattle.records.proofs.SameLaws.{bool_eq}
 use Rattle.records.proofs.TableLaws.{Ranges, good_ranges, record_good}
-use Rattle.sheets.specs.Steps.Pooled.{pooled_leg, pooled_records, FieldsGood}
-use Rattle.sheets.specs.Steps.Links.{sorts_of, digits_of, Rising, Packed, Worded, AllWorded}
+use Rattle.sheets.specs.Steps.Pooled.{pooled_leg, pooled_records, alike, FieldsGood}
+use Rattle.sheets.specs.Steps.Links.{sorts_of, digits_of, same_words, words_at, Rising, Packed, Worded, AllWorded}
 use Rattle.sheets.specs.declared.links.Digits.{Digits}
 
 pub same_digits : (x y : Leg) → same_line_side x y ≡ true → digits_of x ≡ digits_of y
@@ -54,19 +54,28 @@ module _ (x y : Leg) (px : Packed x) (py : Packed y) where
       cc
 
   -- words that are y's, held against x's
-  pub words_same : (low high : ℕ) → low ≡ (digits_of y).low → high ≡ (digits_of y).high
-      → eqb low (digits_of x).low && eqb high (digits_of x).high ≡ same_line_side x y
-  words_same low high l h =
+  pub words_same : (words : Digits) → words ≡ digits_of y → same_words words (digits_of x) ≡ same_line_side x y
+  words_same words w =
+      let low : words.low ≡ (digits_of y).low = ap (λ (t : Digits). t.low) w in
+      let high : words.high ≡ (digits_of y).high = ap (λ (t : Digits). t.high) w in
       bool_eq _ _
       (λ e.
-      let b = (and-eq-true_iff (eqb low (digits_of x).low) (eqb high (digits_of x).high)).0 e in
-      (same? x y).1 (words_line (sym (eqb-true low (digits_of x).low b.0) ∙ l) (sym (eqb-true high (digits_of x).high b.1) ∙ h)))
+      let b = (and-eq-true_iff (eqb words.low (digits_of x).low) (eqb words.high (digits_of x).high)).0 e in
+      (same? x y).1 (words_line (sym (eqb-true words.low (digits_of x).low b.0) ∙ low) (sym (eqb-true words.high (digits_of x).high b.1) ∙ high)))
       (λ e.
       let d = same_digits x y e in
-      (and-eq-true_iff (eqb low (digits_of x).low) (eqb high (digits_of x).high)).1 (
-        eq-eqb low (digits_of x).low (l ∙ sym (ap (λ (t : Digits). t.low) d)),
-        eq-eqb high (digits_of x).high (h ∙ sym (ap (λ (t : Digits). t.high) d)),
+      (and-eq-true_iff (eqb words.low (digits_of x).low) (eqb words.high (digits_of x).high)).1 (
+        eq-eqb words.low (digits_of x).low (low ∙ sym (ap (λ (t : Digits). t.low) d)),
+        eq-eqb words.high (digits_of x).high (high ∙ sym (ap (λ (t : Digits). t.high) d)),
       ))
+
+-- what the test of the words says of the record that a link leads to
+module _ (words : List Digits) (links : List ℕ) (l j : ℕ) (leads : get_or links l 0 ≡ suc j) (whole : Digits) (b : Bool)
+    (e : same_words (words_at words j) whole ≡ b) where
+  pub tested : (leg : ℕ → Leg) → AllWorded leg words links → (x : Leg) → Packed x → whole ≡ digits_of x → alike leg x j ≡ b
+  tested leg known x packed q =
+      let v = known l j leads in
+      sym (words_same x (leg j) packed v.packed (words_at words j) v.digits) ∙ rw (sym q) e
 
 -- ---- the fields of records that have passed 4 have that room
 
@@ -94,30 +103,26 @@ leg_packed h p good k l =
 
 -- ---- record k linked at a free link, with its words
 
-module _ (leg : ℕ → Leg) (lows highs links : List ℕ) (words : AllWorded leg lows highs links) (k at low high : ℕ) where
-  pub worded_new : Rising k links → at < length links → k < length lows → k < length highs → Packed (leg k)
-      → low ≡ (digits_of (leg k)).low → high ≡ (digits_of (leg k)).high
-      → AllWorded leg (set lows k low) (set highs k high) (set links at (suc k))
-  worded_new rising room in-lows in-highs packed el eh l j s = go (eqb l at) refl
+module _ (leg : ℕ → Leg) (words : List Digits) (links : List ℕ) (known : AllWorded leg words links) (k at : ℕ) (digits : Digits) where
+  pub worded_new : Rising k links → at < length links → k < length words → Packed (leg k) → digits ≡ digits_of (leg k)
+      → AllWorded leg (set words k digits) (set links at (suc k))
+  worded_new rising room in-words packed e l j s = go (eqb l at) refl
     where
-      go : (t : Bool) → eqb l at ≡ t → Worded leg (set lows k low) (set highs k high) j
+      go : (t : Bool) → eqb l at ≡ t → Worded leg (set words k digits) j
       go true q =
           let here : get_or (set links at (suc k)) l 0 ≡ suc k = ap (λ (m : ℕ). get_or (set links at (suc k)) m 0) (eqb-true l at q) ∙ get_or-set_same links at (suc k) 0 room in
-          let e : k ≡ j = omega (arith, here, s) in
-          rw (← e) (
+          let same : k ≡ j = omega (arith, here, s) in
+          rw (← same)
           record {
             packed = packed;
-            low = get_or-set_same lows k low 0 in-lows ∙ el;
-            high = get_or-set_same highs k high 0 in-highs ∙ eh;
+            digits = get_or-set_same words k digits _ in-words ∙ e;
           }
-          )
       go false q =
           let old = sym (get_or-set_other links at l (suc k) 0 (eqb-false l at q)) ∙ s in
-          let w = words l j old in
+          let w = known l j old in
           let r = (rising l j old).0 in
           let other : j ≡ k → ⊥ = λ e. omega (arith, r, e) in
           record {
             packed = w.packed;
-            low = get_or-set_other lows k j low 0 other ∙ w.low;
-            high = get_or-set_other highs k j high 0 other ∙ w.high;
+            digits = get_or-set_other words k j digits _ other ∙ w.digits;
           }

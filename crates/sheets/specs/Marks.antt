@@ -1,17 +1,14 @@
 -- 'Give a pass that sets the mark on every unplaced long; old sheets go through it.'
-use Rattle.std.specs.Prelude.{Bool, true, false, cond, ◌&&◌, List, ◌++◌, ℕ, zero, suc, ◌/◌, eqb, length, set, take, drop}
+use Rattle.std.specs.Prelude.{Bool, true, false, cond, ◌&&◌, List, ◌++◌, ℕ, zero, suc, ◌/◌, eqb, length, set, take, drop, Result, Ok, Err}
 use Rattle.records.specs.Legs.{leg_of, is_long, with_paid}
 use Rattle.records.specs.Limits.{record_bytes}
 use Rattle.records.specs.Lists.{only, sum_of}
 use Rattle.records.specs.Order.{first_of}
 use Rattle.records.specs.Tables.{table_checks, legs_of}
 use Rattle.records.specs.declared.legs.Leg.{Leg}
-use Rattle.records.specs.declared.refusals.Fault.{Fault}
-use Rattle.records.specs.declared.refusals.Fault.TheVariants.{Nothing, Is}
 use Rattle.records.specs.declared.tables.Kind.TheVariants.{Placement}
 use Rattle.sheets.specs.Sheets.{unpaid_long}
-use Rattle.sheets.specs.declared.marks.Marked.{Marked}
-use Rattle.sheets.specs.declared.marks.Marked.TheVariants.{Marks, Refused}
+use Rattle.records.specs.declared.refusals.Refusal.{Refusal}
 
 -- 'Byte 25 of a leg record becomes paid mark'
 abbrev pub paid_at : ℕ
@@ -41,14 +38,14 @@ unfoldable pub marks_in : List ℕ → ℕ
 marks_in p = sum_of mark_on (legs_of p)
 
 -- 'the pass gives 1 and 4 and then changes nothing': the refusal, or how many marks were set
-abbrev pub pass_answer : Fault → ℕ → Marked
-pass_answer Nothing n = Marks n
-pass_answer (Is r) n = Refused r
+abbrev pub pass_answer : Result Unit Refusal → ℕ → Result ℕ Refusal
+pass_answer (Ok _) n = Ok n
+pass_answer (Err r) n = Err r
 
-unfoldable pub pass_call : List ℕ → Marked
+unfoldable pub pass_call : List ℕ → Result ℕ Refusal
 pass_call p = pass_answer (first_of (table_checks Placement p)) (marks_in p)
 
 -- whether the table then is `marked_placement`, by `left_after`
-abbrev pub has_marked : Marked → Bool
-has_marked (Marks n) = true
-has_marked (Refused r) = false
+abbrev pub has_marked : Result ℕ Refusal → Bool
+has_marked (Ok n) = true
+has_marked (Err r) = false

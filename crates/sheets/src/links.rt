@@ -1,10 +1,11 @@
 // The first record of each line and side, found from link to link. A link is to a record, counted from 1,
-// or to none, 0; there is one for each bucket and eight for each record.
+// or to none, 0; there is one for each bucket and eight for each record. None is 0 and not an Option, which has twice the
+// room: the links are cleared for each sheet.
 ghost use Rattle.std.specs.Prelude.{◌≡◌, ◌+◌, ◌≤◌, ◌<◌, length};
 ghost use Rattle.sheets.specs.Steps.Pooled.{most_pooled};
-ghost use Rattle.sheets.specs.Steps.Links.{buckets, links_of, bucket_of, sorts_of, digits_of, rest_of, link_below, Rising, WordRooms, EndsFor};
+ghost use Rattle.sheets.specs.Steps.Links.{buckets, links_of, bucket_of, sorts_of, digits_of, same_words, rest_of, link_below, Rising, WordRooms, EndsFor};
 
-use crate::pooled::{FEW_POOLED, MOST_POOLED, SOME_POOLED, wide};
+use crate::pooled::{FEW_POOLED, MOST_POOLED, SOME_POOLED};
 use records::Leg;
 
 const BUCKETS: usize = 509;
@@ -34,8 +35,8 @@ pub(crate) fn bucket_of(leg: Leg) -> usize
 // go. Lines and sides in range that differ do so in one of 34 digits, so that no search looks at more than 35 records.
 #[derive(Clone, Copy)]
 pub(crate) struct Digits {
-    pub(crate) low: u64,
-    pub(crate) high: u64,
+    low: u64,
+    high: u64,
 }
 
 // The fields of few values as one number.
@@ -49,29 +50,40 @@ fn sorts_of(leg: Leg) -> u64
         + 16 * (leg.settlement as u64)
 }
 
-pub(crate) fn digits_of(leg: Leg) -> Digits
-    ensures { result ≡ digits_of leg }
-{
-    let sorts = sorts_of(leg);
-    Digits {
-        low: leg.strike as u64 + 134217728 * (leg.expiry as u64),
-        high: leg.underlying as u64 + 4294967296 * (leg.size as u64) + 4398046511104 * sorts,
-    }
-}
+impl Digits {
+    pub(crate) const NONE: Digits = Digits { low: 0, high: 0 };
 
-// The digits after the first.
-fn rest_of(digits: Digits) -> Digits
-    ensures { result ≡ rest_of digits }
-{
-    if digits.low < 8 {
-        return Digits {
-            low: digits.high,
-            high: 0,
-        };
+    pub(crate) fn of(leg: Leg) -> Digits
+        ensures { result ≡ digits_of leg }
+    {
+        let sorts = sorts_of(leg);
+        Digits {
+            low: leg.strike as u64 + 134217728 * (leg.expiry as u64),
+            high: leg.underlying as u64 + 4294967296 * (leg.size as u64) + 4398046511104 * sorts,
+        }
     }
-    Digits {
-        low: digits.low / 8,
-        high: digits.high,
+
+    // Both words are compared, without a branch between them.
+    fn same(self, other: Digits) -> bool
+        ensures { result ≡ same_words self other }
+    {
+        (self.low == other.low) & (self.high == other.high)
+    }
+
+    // The digits after the first.
+    fn rest(self) -> Digits
+        ensures { result ≡ rest_of self }
+    {
+        if self.low < 8 {
+            return Digits {
+                low: self.high,
+                high: 0,
+            };
+        }
+        Digits {
+            low: self.low / 8,
+            high: self.high,
+        }
     }
 }
 
@@ -84,31 +96,26 @@ fn link_below(j: usize, digits: Digits) -> usize
 }
 
 // The link to the first record of a line and side, by its bucket and its digits, or the free one where such a record belongs.
-// A record that is linked is compared by its two words, which stand at its index.
-pub(crate) fn link_of(
-    bucket: usize,
-    whole: Digits,
-    lows: &[u64],
-    highs: &[u64],
-    links: &[u16],
-) -> usize
+// A record that is linked is compared by its two words, which stand at its index. The loop goes from link to link: no range
+// says how often.
+pub(crate) fn link_of(bucket: usize, whole: Digits, words: &[Digits], links: &[u16]) -> usize
     requires bucket_lt_buckets { bucket < buckets }
-    requires word_rooms { WordRooms lows.now highs.now links.now }
-    requires rising { Rising (length lows.now) links.now }
-    ensures { EndsFor lows.now highs.now links.now bucket whole result }
+    requires word_rooms { WordRooms words.now links.now }
+    requires rising { Rising (length words.now) links.now }
+    ensures { EndsFor words.now links.now bucket whole result }
 {
     let mut link = bucket;
     let mut digits = whole;
     loop {
-        let at = wide(links[link]);
+        let at = usize::from(links[link]);
         if at == 0 {
             return link;
         }
         let j = at - 1;
-        if (lows[j] == whole.low) & (highs[j] == whole.high) {
+        if words[j].same(whole) {
             return link;
         }
         link = link_below(j, digits);
-        digits = rest_of(digits);
+        digits = digits.rest();
     }
 }

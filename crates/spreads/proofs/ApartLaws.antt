@@ -1,4 +1,5 @@
 -- Legs that all have strikes of their own: no series among them is both long and short.
+use Rattle.std.specs.Prelude.{Option, Some, None, is_none}
 use Prim.Native.Nat.{ℕ, ◌≤◌, ◌<◌}
 use mathlib.Core.Path.{◌≡◌, refl, sym, ap, ◌∙◌}
 use mathlib.Core.Bool.{true, not}
@@ -10,9 +11,7 @@ use Rattle.records.specs.declared.legs.Leg.{Leg}
 use Rattle.records.proofs.ListLaws.{all_all_of}
 use Rattle.spreads.specs.Spreads.{doubled, none_doubled}
 use Rattle.spreads.specs.Strikes.{insert, strikes_of}
-use Rattle.spreads.specs.Steps.Search.{first_pair, is_clear}
-use Rattle.spreads.specs.declared.pairs.Pair.{Pair}
-use Rattle.spreads.specs.declared.pairs.Pair.TheVariants.{At, Nothing}
+use Rattle.spreads.specs.Steps.Search.{first_pair}
 use Rattle.spreads.proofs.PairLaws.{clear_is, doubled_strike, refuted}
 use Rattle.spreads.proofs.StrikeLaws.{insert_above, insert_same, insert_count, strikes_have, strikes_ascending, strikes_count}
 
@@ -71,9 +70,9 @@ module _ (legs : List Leg) (h : length legs ≤ length (strikes_of legs)) where
       (in_all (λ a. all_of (λ b. not (doubled a b)) legs ≡ true) legs
       (λ a m. all_all_of (λ b. not (doubled a b)) legs (in_all (λ b. not (doubled a b) ≡ true) legs (λ b o. rw (refuted (doubled a b) (none_two m o))))))
 
-clear_nothing : (p : Pair) → is_clear p ≡ true → Nothing ≡ p
-clear_nothing (At j i) e = let z : ◌≡◌ {A = ℕ} 0 1 = cc in absurd (omega arith)
-clear_nothing Nothing e = refl
+clear_nothing : (p : Option (ℕ × ℕ)) → is_none p ≡ true → None ≡ p
+clear_nothing (Some (j, i)) e = let z : ◌≡◌ {A = ℕ} 0 1 = cc in absurd (omega arith)
+clear_nothing None e = refl
 
-pub apart_nothing : (legs : List Leg) → length legs ≤ length (strikes_of legs) → Nothing ≡ first_pair legs
+pub apart_nothing : (legs : List Leg) → length legs ≤ length (strikes_of legs) → None ≡ first_pair legs
 apart_nothing legs h = clear_nothing (first_pair legs) (clear_is legs ∙ apart_clear legs h)

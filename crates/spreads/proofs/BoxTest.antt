@@ -1,4 +1,5 @@
 -- The test for a long box as the code makes it: one walk that asks each leg by itself and adds its units, then the units.
+use Rattle.std.specs.Prelude.{Some, None}
 use Prim.Native.Nat.{ℕ, ◌+◌, ◌≤◌, ◌<◌}
 use mathlib.Core.Path.{◌≡◌, refl, sym, ◌∙◌}
 use mathlib.Core.Bool.{Bool, true, false, ◌&&◌, and-eq-true_iff}
@@ -18,7 +19,6 @@ use Rattle.spreads.specs.Steps.Boxed.{fits_box, no_kinds, with_kind, are_even, b
 use Rattle.spreads.specs.Steps.Gathered.{with_right}
 use Rattle.spreads.specs.Steps.Members.{leg_at_place, legs_at, OneGroup}
 use Rattle.spreads.specs.declared.boxes.Kinds.{Kinds}
-use Rattle.spreads.specs.declared.boxes.Boxed.TheVariants.{Units, Not}
 use Rattle.spreads.proofs.MemberLaws.{legs_next, legs_end, members_ranges, members_few}
 use Rattle.spreads.proofs.GatheredLaws.{units_are}
 use Rattle.spreads.proofs.BoxKinds.{long_calls_lem, short_calls_lem, long_puts, short_puts}
@@ -92,7 +92,7 @@ module _ {xs ms : List ℕ} (o : OneGroup xs ms) (h : 1 ≤ length ms) (low high
   fits : box_at low high (legs_at xs ms) ≡ (all_of (fits_box low high l.expiry) (legs_at xs ms) && ltb low high && even_kinds low high (legs_at xs ms))
   fits = box_fits low high (legs_at xs ms) (drop 1 (legs_at xs ms)) l (legs_next xs ms 0 l h e)
 
-  pub not_fit : false ≡ all_of (fits_box low high l.expiry) (legs_at xs ms) → Not ≡ boxed_at low high (legs_at xs ms)
+  pub not_fit : false ≡ all_of (fits_box low high l.expiry) (legs_at xs ms) → None ≡ boxed_at low high (legs_at xs ms)
   unfolding boxed_at
   not_fit a = rw (fits, ← a)
 
@@ -125,10 +125,10 @@ module _ {xs ms : List ℕ} (o : OneGroup xs ms) (h : 1 ≤ length ms) (low high
       tested : box_at low high (legs_at xs ms) ≡ (ltb low high && even)
       tested = rw v box_even
 
-      pub is_box : {n : ℕ} → n ≡ k.calls.long.0 → (ltb low high && even) ≡ true → Units n ≡ boxed_at low high (legs_at xs ms)
+      pub is_box : {n : ℕ} → n ≡ k.calls.long.0 → (ltb low high && even) ≡ true → Some n ≡ boxed_at low high (legs_at xs ms)
       unfolding boxed_at
       is_box u t = rw (tested, t, u, box_units)
 
-      pub no_box : (ltb low high && even) ≡ false → Not ≡ boxed_at low high (legs_at xs ms)
+      pub no_box : (ltb low high && even) ≡ false → None ≡ boxed_at low high (legs_at xs ms)
       unfolding boxed_at
       no_box t = rw (tested, t)

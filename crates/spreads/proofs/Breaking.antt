@@ -1,4 +1,5 @@
 -- The walk over a refused group: the facts so far, leg by leg, until they break what its refusal asks.
+use Rattle.std.specs.Prelude.{Some, None}
 use Prim.Native.Nat.{ℕ, ◌+◌, ◌≤◌, ◌<◌}
 use mathlib.Core.Path.{◌≡◌, ap, ◌∙◌}
 use mathlib.Core.Bool.{Bool, true, false, not}
@@ -12,7 +13,7 @@ use borrow.Author.Tests.{le-leb, lt-leb, le-ltb, lt-ltb}
 use Rattle.records.specs.declared.legs.Leg.{Leg}
 use Rattle.spreads.specs.Steps.Gathered.{with_leg, no_facts, gathered}
 use Rattle.spreads.specs.Steps.Members.{leg_at_place, legs_at}
-use Rattle.spreads.specs.Steps.Pointing.{broken_by, facts_broken}
+use Rattle.spreads.specs.Steps.Pointing.{broken_by, index_in, facts_broken}
 use Rattle.spreads.specs.declared.facts.Facts.{Facts}
 use Rattle.records.proofs.Cuts.{cut}
 use Rattle.records.proofs.LowestLaws.{Seeking, seek_none, seek_more, seek_here, seek_done}
@@ -39,9 +40,11 @@ unfolding gathered
 break_none e = record { seeking = seek_none; is = e }
 
 module _ {number : ℕ} {xs ms : List ℕ} {i : ℕ} {facts : Facts} (b : Breaking number xs ms i facts) where
-  pub break_done : length ms ≤ i → i ≡ facts_broken number (legs_at xs ms)
+  pub break_done : length ms ≤ i → None ≡ index_in (length (legs_at xs ms)) (facts_broken number (legs_at xs ms))
   unfolding facts_broken
-  break_done h = seek_done b.seeking (rw (length_at xs ms) h)
+  break_done h =
+      let past : length (legs_at xs ms) ≤ i = rw (length_at xs ms) h in
+      rw (← seek_done b.seeking past, le-ltb i (length (legs_at xs ms)) past)
 
   module _ (h : i < length ms) {l : Leg} (e : l ≡ leg_at_place xs (get_or ms i 0)) {next : Facts} (q : next ≡ with_leg facts l) where
     next_is : next ≡ gathered (take (i + 1) (legs_at xs ms))
@@ -56,6 +59,6 @@ module _ {number : ℕ} {xs ms : List ℕ} {i : ℕ} {facts : Facts} (b : Breaki
     pub break_more : broken_by number next ≡ false → Breaking number xs ms (i + 1) next
     break_more t = record { seeking = seek_more b.seeking short (rw (← next_is) t); is = next_is }
 
-    pub break_here : broken_by number next ≡ true → i ≡ facts_broken number (legs_at xs ms)
+    pub break_here : broken_by number next ≡ true → Some i ≡ index_in (length (legs_at xs ms)) (facts_broken number (legs_at xs ms))
     unfolding facts_broken
-    break_here t = seek_here b.seeking short (rw (← next_is) t)
+    break_here t = rw (← seek_here b.seeking short (rw (← next_is) t), lt-ltb i (length (legs_at xs ms)) short)

@@ -1,4 +1,5 @@
 -- A group fit for a cash account: the facts and the check, the check as the code makes it, and the call's answers.
+use Rattle.std.specs.Prelude.{Result, Ok, Err}
 use Prim.Native.Nat.{ℕ, ◌≤◌, ◌<◌}
 use mathlib.Core.Path.{◌≡◌, refl, sym, ◌∙◌}
 use mathlib.Core.Bool.{true, false, ◌&&◌, and-eq-true_iff}
@@ -14,9 +15,7 @@ use Rattle.records.specs.Order.{ask, refuse, first_of}
 use Rattle.records.specs.Tables.{table_checks, legs_of}
 use Rattle.records.specs.declared.legs.Leg.{Leg}
 use Rattle.records.specs.declared.tables.Kind.TheVariants.{Placement}
-use Rattle.records.specs.declared.refusals.Fault.{Fault}
 use Rattle.records.specs.declared.refusals.Refusal.{Refusal}
-use Rattle.records.specs.declared.refusals.Fault.TheVariants.{Nothing, Is}
 use Rattle.records.proofs.ListLaws.{all_map, all_of_and, all_of_all, all_all_of}
 use Rattle.records.proofs.OrderLaws.{first_then, first_stop}
 use Rattle.records.proofs.PassLaws.{clear, pass_left, pass_right}
@@ -26,8 +25,6 @@ use Rattle.spreads.specs.Steps.Fitting.{cash_due, fits_cash}
 use Rattle.spreads.specs.Calls.{due_answer}
 use Rattle.spreads.specs.Steps.Members.{leg_at_place, legs_at}
 use Rattle.spreads.specs.Strikes.{worst_loss}
-use Rattle.spreads.specs.declared.answers.Due.{Due}
-use Rattle.spreads.specs.declared.answers.Due.TheVariants.{Mills, Refused}
 use Rattle.spreads.proofs.BoxTest.{one_first}
 use Rattle.spreads.proofs.MemberLaws.{legs_next, legs_end}
 use Rattle.spreads.proofs.RuleLaws.{one_of_to_all, all_to_one_of, rule_to_spread, spread_to_no_refusal}
@@ -76,34 +73,34 @@ module _ (xs ms : List ℕ) where
 -- ---- the answer
 
 module _ (g : ℕ) (legs : List Leg) where
-  pub fit_due : is_fit legs ≡ true → Mills (pos (worst_loss legs)) ≡ cash_due g legs
+  pub fit_due : is_fit legs ≡ true → Ok (pos (worst_loss legs)) ≡ cash_due g legs
   unfolding first_of
   fit_due e = rw e
 
-  pub not_fit_due : is_fit legs ≡ false → Refused (refuse 21 2 g) ≡ cash_due g legs
+  pub not_fit_due : is_fit legs ≡ false → Err (refuse 21 2 g) ≡ cash_due g legs
   unfolding first_of
   not_fit_due e = rw e
 
-module _ (g : ℕ) (placement : List Leg) {f : Fault} (e : f ≡ first_of (group_rule g placement)) (mills : ℕ) where
-  pub cash_stop : {r : Refusal} → f ≡ Is r → Refused r ≡ due_answer (first_of (cash_rule g placement)) mills
+module _ (g : ℕ) (placement : List Leg) {f : Result Unit Refusal} (e : f ≡ first_of (group_rule g placement)) (mills : ℕ) where
+  pub cash_stop : {r : Refusal} → f ≡ Err r → Err r ≡ due_answer (first_of (cash_rule g placement)) mills
   unfolding cash_rule
   cash_stop {r} q = rw (first_stop (group_rule g placement) (ask (is_fit (group_of g placement)) 21 2 g ∷ []) r (sym e ∙ q))
 
-  pub cash_then : f ≡ Nothing → {a : Due} → a ≡ due_answer (first_of (ask (is_fit (group_of g placement)) 21 2 g ∷ [])) mills
+  pub cash_then : f ≡ Ok tt → {a : Result ℤ Refusal} → a ≡ due_answer (first_of (ask (is_fit (group_of g placement)) 21 2 g ∷ [])) mills
       → a ≡ due_answer (first_of (cash_rule g placement)) mills
   unfolding cash_rule
   cash_then q h = rw (first_then (group_rule g placement) (ask (is_fit (group_of g placement)) 21 2 g ∷ []) (sym e ∙ q)) h
 
 -- ---- what the call's answer says
 
-pub due_mills : (f : Fault) (w : ℕ) (m : ℤ) → due_answer f w ≡ Mills m → (f ≡ Nothing) × (m ≡ pos w)
-due_mills Nothing w m e = (refl, cc)
-due_mills (Is r) w m e = let z : ◌≡◌ {A = ℕ} 0 1 = cc in absurd (omega arith)
+pub due_mills : (f : Result Unit Refusal) (w : ℕ) (m : ℤ) → due_answer f w ≡ Ok m → (f ≡ Ok tt) × (m ≡ pos w)
+due_mills (Ok _) w m e = (refl, cc)
+due_mills (Err r) w m e = let z : ◌≡◌ {A = ℕ} 0 1 = cc in absurd (omega arith)
 
 same_mills : (m w : ℕ) → pos m ≡ pos w → m ≡ w
 same_mills m w e = cc
 
-pub answered : (xs : List ℕ) (g mills : ℕ) → cash_call xs g ≡ Mills (pos mills)
+pub answered : (xs : List ℕ) (g mills : ℕ) → cash_call xs g ≡ Ok (pos mills)
     → Spread g (group_in xs g) × FitForCash (group_in xs g) × (mills ≡ worst_loss (group_in xs g))
 unfolding cash_call cash_rule
 answered xs g mills e =
@@ -113,8 +110,8 @@ answered xs g mills e =
     let p = pass_right (table_checks Placement xs) (rule ++ fit) (clear _ a.0) in
     (rule_to_spread g (legs_of xs) (pass_left rule fit p), fit_facts (group_in xs g) (pass_right rule fit p).0, same_mills mills (worst_loss (group_in xs g)) a.1)
 
-pub given : (xs : List ℕ) (g : ℕ) → first_of (table_checks Placement xs) ≡ Nothing → Spread g (group_in xs g) → FitForCash (group_in xs g)
-    → cash_call xs g ≡ Mills (pos (worst_loss (group_in xs g)))
+pub given : (xs : List ℕ) (g : ℕ) → first_of (table_checks Placement xs) ≡ Ok tt → Spread g (group_in xs g) → FitForCash (group_in xs g)
+    → cash_call xs g ≡ Ok (pos (worst_loss (group_in xs g)))
 unfolding cash_call cash_rule
 given xs g t s f =
     let rule = group_rule g (legs_of xs) in

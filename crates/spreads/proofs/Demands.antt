@@ -1,4 +1,5 @@
 -- The statements of specs/Demands.antt, each with the law that proves it.
+use Rattle.std.specs.Prelude.{Result, Ok, Err}
 use Prim.Native.Nat.{ℕ, ◌+◌, ◌-◌, ◌≤◌, ◌<◌}
 use mathlib.Core.Path.{◌≡◌, refl, sym, ◌∙◌}
 use mathlib.Core.Bool.{Bool, true, ◌&&◌}
@@ -11,8 +12,6 @@ use borrow.Author.Tests.{le-leb}
 use Rattle.records.specs.Order.{Check, ask, first_of, groups}
 use Rattle.records.specs.Tables.{table_checks, legs_of}
 use Rattle.records.specs.Written.{put_at, left_after}
-use Rattle.records.specs.declared.refusals.Fault.{Fault}
-use Rattle.records.specs.declared.refusals.Fault.TheVariants.{Nothing, Is}
 use Rattle.records.specs.declared.tables.Kind.TheVariants.{Placement}
 use Rattle.records.proofs.OrderLaws.{first_then}
 use Rattle.records.proofs.PassLaws.{Pass, clear, unclear, pass_left, pass_right, pass_both, pass_groups, groups_pass}
@@ -23,8 +22,6 @@ use Rattle.spreads.specs.Strikes.{strikes_of, nets_of}
 use Rattle.spreads.specs.Boxes.{margin_of}
 use Rattle.spreads.specs.Calls.{group_checks, margin_call, listed_answer, listed_after, strikes_listed, worksheet_call, has_listed, margins_from, groups_checks, margins_call}
 use Rattle.spreads.specs.Demands.{taken_together, SpreadIff, RefusalsName, LegsBeside, PointsOnce, StrikesExact, WorstIsGreatest, MarginRight, MarginGiven, MarginsRight, MarginsGiven, WorksheetRight, WorksheetGiven, Leaves, WorksheetLeaves, MarginsLeave, BoxIff, BoxAnyOrder, BoxAnySplit, BoxNets, MarginsByKind, FitIff, CashRight, CashGiven, JoiningNeverCosts, JoiningCosts, JoiningLoses, JoinedBoxCosts}
-use Rattle.spreads.specs.declared.answers.Listed.{Listed}
-use Rattle.spreads.specs.declared.answers.Listed.TheVariants.{Entries, Refused}
 use Rattle.spreads.proofs.RuleLaws.{rule_to_spread, spread_to_rule, no_refusal_to_spread, spread_to_no_refusal}
 use Rattle.spreads.proofs.Naming.{refusals_name}
 use Rattle.spreads.proofs.Earlier.{legs_beside}
@@ -38,6 +35,7 @@ use Rattle.spreads.proofs.CashLaws.{fit_facts, facts_fit, due_mills, answered, g
 use Rattle.spreads.proofs.BoxLaws.{test_to_box, box_to_test, no_box_test, box_margin, other_margin, box_nets, box_worst, join_margins}
 use Rattle.spreads.proofs.Bench.{joined_box_costs}
 use Rattle.spreads.proofs.BoxOrder.{box_swap, box_split, box_join}
+use Rattle.records.specs.declared.refusals.Refusal.{Refusal}
 
 pub spread_iff : SpreadIff
 spread_iff g placement = (no_refusal_to_spread g placement, spread_to_no_refusal g placement)
@@ -115,26 +113,26 @@ margin_given placement g t s =
 -- ---- a call that lists
 
 -- it has refused nothing, and answers how many entries it lists
-entries_are : (f : Fault) (k n : ℕ) → listed_answer f k ≡ Entries n → (f ≡ Nothing) × (n ≡ k)
-entries_are Nothing k n e = (refl, cc)
-entries_are (Is r) k n e = let z : ◌≡◌ {A = ℕ} 0 1 = cc in absurd (omega arith)
+entries_are : (f : Result Unit Refusal) (k n : ℕ) → listed_answer f k ≡ Ok n → (f ≡ Ok tt) × (n ≡ k)
+entries_are (Ok _) k n e = (refl, cc)
+entries_are (Err r) k n e = let z : ◌≡◌ {A = ℕ} 0 1 = cc in absurd (omega arith)
 
-entries_after : (cs : List Check) (room : Bool) (k n : ℕ) → listed_after cs room k ≡ Entries n → Pass cs × (n ≡ k)
+entries_after : (cs : List Check) (room : Bool) (k n : ℕ) → listed_after cs room k ≡ Ok n → Pass cs × (n ≡ k)
 entries_after cs room k n e =
     let p = entries_are (first_of (cs ++ ask room 17 0 k ∷ [])) k n e in (pass_left cs (ask room 17 0 k ∷ []) (clear _ p.0), p.1)
 
 -- and where nothing is refused and there is room, it lists them
-listed_after_lem : (cs : List Check) (room : Bool) (k : ℕ) → Pass cs → room ≡ true → listed_after cs room k ≡ Entries k
+listed_after_lem : (cs : List Check) (room : Bool) (k : ℕ) → Pass cs → room ≡ true → listed_after cs room k ≡ Ok k
 unfolding first_of
 listed_after_lem cs room k p e = rw (first_then cs (ask room 17 0 k ∷ []) (unclear cs p), e)
 
-leaves : {A : Type 0} (answer : Listed) (entries before : List A) → ((n : ℕ) → answer ≡ Entries n → n ≡ length entries)
+leaves : {A : Type 0} (answer : Result ℕ Refusal) (entries before : List A) → ((n : ℕ) → answer ≡ Ok n → n ≡ length entries)
     → Leaves answer entries before (left_after (has_listed answer) entries before)
-leaves (Entries n) entries before h = rw (h n refl) (put_front before entries, put_past before entries)
-leaves (Refused r) entries before h = refl
+leaves (Ok n) entries before h = rw (h n refl) (put_front before entries, put_past before entries)
+leaves (Err r) entries before h = refl
 
 module _ (placement : List ℕ) (g a b : ℕ) where
-  worksheet_spread : (n : ℕ) → worksheet_call placement g a b ≡ Entries n → Spread g (group_in placement g)
+  worksheet_spread : (n : ℕ) → worksheet_call placement g a b ≡ Ok n → Spread g (group_in placement g)
   unfolding strikes_listed group_checks
   worksheet_spread n e =
       let k = length (strikes_of (group_in placement g)) in
@@ -142,13 +140,13 @@ module _ (placement : List ℕ) (g a b : ℕ) where
       let p = entries_after (table_checks Placement placement ++ rule) (leb k a && leb k b) k n e in
       rule_to_spread g (legs_of placement) (pass_right (table_checks Placement placement) rule p.0)
 
-  worksheet_strikes : (n : ℕ) → worksheet_call placement g a b ≡ Entries n → n ≡ length (strikes_of (group_in placement g))
+  worksheet_strikes : (n : ℕ) → worksheet_call placement g a b ≡ Ok n → n ≡ length (strikes_of (group_in placement g))
   unfolding strikes_listed
   worksheet_strikes n e =
       let k = length (strikes_of (group_in placement g)) in
       (entries_after (group_checks placement g) (leb k a && leb k b) k n e).1
 
-  worksheet_nets : (n : ℕ) → worksheet_call placement g a b ≡ Entries n → n ≡ length (nets_of (group_in placement g))
+  worksheet_nets : (n : ℕ) → worksheet_call placement g a b ≡ Ok n → n ≡ length (nets_of (group_in placement g))
   unfolding nets_of
   worksheet_nets n e = worksheet_strikes n e ∙ sym (length-map (strikes_of (group_in placement g)) (net (group_in placement g)))
 
@@ -182,7 +180,7 @@ worksheet_leaves placement g strikes nets =
       leaves answer (nets_of (group_in placement g)) nets (worksheet_nets placement g a b),
     )
 
-margins_listed : (placement : List ℕ) (n room m : ℕ) → margins_call placement n room ≡ Entries m → m ≡ length (margins_from (legs_of placement) 1 n)
+margins_listed : (placement : List ℕ) (n room m : ℕ) → margins_call placement n room ≡ Ok m → m ≡ length (margins_from (legs_of placement) 1 n)
 unfolding margins_call
 margins_listed placement n room m e =
     (entries_after (groups_checks placement n) (leb n room) n m e).1 ∙ sym (length_margins (legs_of placement) 1 n)

@@ -1,5 +1,5 @@
 -- Document 02, request 7: 'Cash accounts'.
-use Rattle.std.specs.Prelude.{ℕ, ◌≡◌, Bool, ◌&&◌, List, [], ◌∷◌, ◌++◌}
+use Rattle.std.specs.Prelude.{ℕ, ◌≡◌, Bool, ◌&&◌, List, [], ◌∷◌, ◌++◌, Result, ℤ}
 use Rattle.records.specs.Lists.{all_of, All}
 use Rattle.records.specs.Legs.{is_european, is_cash}
 use Rattle.records.specs.Order.{Check, ask, first_of}
@@ -9,7 +9,7 @@ use Rattle.records.specs.declared.tables.Kind.TheVariants.{Placement}
 use Rattle.spreads.specs.Spreads.{one_of, group_of, group_in, group_rule}
 use Rattle.spreads.specs.Strikes.{worst_loss}
 use Rattle.spreads.specs.Calls.{due_answer}
-use Rattle.spreads.specs.declared.answers.Due.{Due}
+use Rattle.records.specs.declared.refusals.Refusal.{Refusal}
 
 -- ---- a group fit for a cash account, as facts
 
@@ -31,5 +31,5 @@ unfoldable pub cash_rule : ℕ → List Leg → List Check
 cash_rule g placement = group_rule g placement ++ ask (is_fit (group_of g placement)) 21 2 g ∷ []
 
 -- 'then the cash required is its margin by document 01, without the half of [2]'
-unfoldable pub cash_call : List ℕ → ℕ → Due
+unfoldable pub cash_call : List ℕ → ℕ → Result ℤ Refusal
 cash_call xs g = due_answer (first_of (table_checks Placement xs ++ cash_rule g (legs_of xs))) (worst_loss (group_in xs g))

@@ -1,7 +1,7 @@
 -- What is demanded of one group and of the calls about it, each statement under its sentence. The proofs stand in
 -- proofs/Demands.antt. That margins cover every price, and that none smaller does, is said of sheets, in their own crate; of the
 -- cash required it is said here.
-use Rattle.std.specs.Prelude.{ℕ, ◌+◌, ◌*◌, ◌-◌, ◌≤◌, ◌<◌, ◌≡◌, Bool, true, false, not, ◌||◌, ◌↔◌, ◌≢◌, eqb, ℤ, pos, neg_ℤ, length, take, drop, get_or, ◌≤ℤ◌}
+use Rattle.std.specs.Prelude.{ℕ, ◌+◌, ◌*◌, ◌-◌, ◌≤◌, ◌<◌, ◌≡◌, Bool, true, false, not, ◌||◌, ◌↔◌, ◌≢◌, eqb, ℤ, pos, neg_ℤ, length, take, drop, get_or, ◌≤ℤ◌, Result, Ok, Err}
 use mathlib.Core.List.{List, [], ◌∷◌, ◌++◌, map, Memᴰ}
 use Rattle.records.specs.Lists.{keep, All, Ascending}
 use Rattle.records.specs.Limits.{most_groups}
@@ -11,7 +11,6 @@ use Rattle.records.specs.Written.{left_after}
 use Rattle.records.specs.Tables.{table_checks, legs_of}
 use Rattle.records.specs.declared.legs.Leg.{Leg}
 use Rattle.records.specs.declared.refusals.Refusal.{Refusal}
-use Rattle.records.specs.declared.refusals.Fault.TheVariants.{Nothing, Is}
 use Rattle.records.specs.declared.tables.Kind.TheVariants.{Placement}
 use Rattle.spreads.specs.Spreads.{group_of, group_in, one_of, doubled, none_doubled, outlives, none_outlives, legs_up_to, Spread, group_rule}
 use Rattle.spreads.specs.Prices.{long_at, short_at, at, Covers}
@@ -20,13 +19,10 @@ use Rattle.spreads.specs.Boxes.{LongBox, is_long_box, half_of, margin_of}
 use Rattle.spreads.specs.Cash.{FitForCash, is_fit, cash_call}
 use Rattle.spreads.specs.Bench.{verticals}
 use Rattle.spreads.specs.Calls.{margin_call, worksheet_call, has_listed, margins_from, margins_call}
-use Rattle.spreads.specs.declared.answers.Due.TheVariants.{Mills}
-use Rattle.spreads.specs.declared.answers.Listed.{Listed}
-use Rattle.spreads.specs.declared.answers.Listed.TheVariants.{Entries, Refused}
 
 -- 'They are a spread when all hold': just then 6 to 13 refuse nothing
 abbrev pub SpreadIff : Type 0
-SpreadIff = (g : ℕ) (placement : List Leg) → (first_of (group_rule g placement) ≡ Nothing) ↔ Spread g (group_of g placement)
+SpreadIff = (g : ℕ) (placement : List Leg) → (first_of (group_rule g placement) ≡ Ok tt) ↔ Spread g (group_of g placement)
 
 -- ---- 'Point at the leg'
 
@@ -54,7 +50,7 @@ pub record Named (g : ℕ) (placement : List Leg) (r : Refusal) : Type 0 where
   pub lives : r.number ≡ 13 → Points none_outlives g placement r.place
 
 abbrev pub RefusalsName : Type 0
-RefusalsName = (g : ℕ) (placement : List Leg) (r : Refusal) → first_of (group_rule g placement) ≡ Is r → Named g placement r
+RefusalsName = (g : ℕ) (placement : List Leg) (r : Refusal) → first_of (group_rule g placement) ≡ Err r → Named g placement r
 
 -- of the leg at a place, and an earlier one of its group
 pub record Beside (r : Leg → Leg → Bool) (g : ℕ) (placement : List Leg) (place : ℕ) : Type 0 where
@@ -141,59 +137,59 @@ pub record RightCash (g mills : ℕ) (legs : List Leg) : Type 0 where
   pub box : LongBox legs → mills ≡ 0
 
 abbrev pub CashRight : Type 0
-CashRight = (placement : List ℕ) (g mills : ℕ) → cash_call placement g ≡ Mills (pos mills) → RightCash g mills (group_in placement g)
+CashRight = (placement : List ℕ) (g mills : ℕ) → cash_call placement g ≡ Ok (pos mills) → RightCash g mills (group_in placement g)
 
 -- and every such group of a sound placement gets an amount
 abbrev pub CashGiven : Type 0
-CashGiven = (placement : List ℕ) (g : ℕ) → first_of (table_checks Placement placement) ≡ Nothing → Spread g (group_in placement g)
-    → FitForCash (group_in placement g) → cash_call placement g ≡ Mills (pos (worst_loss (group_in placement g)))
+CashGiven = (placement : List ℕ) (g : ℕ) → first_of (table_checks Placement placement) ≡ Ok tt → Spread g (group_in placement g)
+    → FitForCash (group_in placement g) → cash_call placement g ≡ Ok (pos (worst_loss (group_in placement g)))
 
 -- ---- margin, margins and worksheet
 
 -- where the call answers, the group is a spread, and the answer is its margin
 abbrev pub MarginRight : Type 0
-MarginRight = (placement : List ℕ) (g : ℕ) (mills : ℤ) → margin_call placement g ≡ Mills mills
+MarginRight = (placement : List ℕ) (g : ℕ) (mills : ℤ) → margin_call placement g ≡ Ok mills
     → Spread g (group_in placement g) × (mills ≡ pos (margin_of (group_in placement g)))
 
 -- and every group of a sound placement that is a spread is answered so
 abbrev pub MarginGiven : Type 0
-MarginGiven = (placement : List ℕ) (g : ℕ) → first_of (table_checks Placement placement) ≡ Nothing → Spread g (group_in placement g)
-    → margin_call placement g ≡ Mills (pos (margin_of (group_in placement g)))
+MarginGiven = (placement : List ℕ) (g : ℕ) → first_of (table_checks Placement placement) ≡ Ok tt → Spread g (group_in placement g)
+    → margin_call placement g ≡ Ok (pos (margin_of (group_in placement g)))
 
 -- where it answers, groups 1 to n are spreads, and the margin of group g stands at index g - 1
 abbrev pub MarginsRight : Type 0
-MarginsRight = (placement : List ℕ) (n : ℕ) (out : List ℤ) (m : ℕ) → margins_call placement n (length out) ≡ Entries m
+MarginsRight = (placement : List ℕ) (n : ℕ) (out : List ℤ) (m : ℕ) → margins_call placement n (length out) ≡ Ok m
     → (m ≡ n)
     × ((g : ℕ) → 1 ≤ g → g ≤ n
     → Spread g (group_in placement g)
-    × (get_or (left_after (has_listed (Entries m)) (margins_from (legs_of placement) 1 n) out) (g - 1) (pos 0) ≡ pos (margin_of (group_in placement g))))
+    × (get_or (left_after (has_listed (Ok m)) (margins_from (legs_of placement) 1 n) out) (g - 1) (pos 0) ≡ pos (margin_of (group_in placement g))))
 
 abbrev pub MarginsGiven : Type 0
-MarginsGiven = (placement : List ℕ) (n room : ℕ) → first_of (table_checks Placement placement) ≡ Nothing
-    → ((g : ℕ) → 1 ≤ g → g ≤ n → Spread g (group_in placement g)) → n ≤ room → margins_call placement n room ≡ Entries n
+MarginsGiven = (placement : List ℕ) (n room : ℕ) → first_of (table_checks Placement placement) ≡ Ok tt
+    → ((g : ℕ) → 1 ≤ g → g ≤ n → Spread g (group_in placement g)) → n ≤ room → margins_call placement n room ≡ Ok n
 
 -- where it answers, the group is a spread, the count is that of its strikes, and in the lent slices stand its strikes and its nets
 abbrev pub WorksheetRight : Type 0
 WorksheetRight = (placement : List ℕ) (g : ℕ) (strikes : List ℕ) (nets : List ℤ) (n : ℕ)
-    → worksheet_call placement g (length strikes) (length nets) ≡ Entries n
+    → worksheet_call placement g (length strikes) (length nets) ≡ Ok n
     → (let legs = group_in placement g in
     Spread g legs
     × (n ≡ length (strikes_of legs))
-    × (take n (left_after (has_listed (Entries n)) (strikes_of legs) strikes) ≡ strikes_of legs)
-    × (take n (left_after (has_listed (Entries n)) (nets_of legs) nets) ≡ nets_of legs))
+    × (take n (left_after (has_listed (Ok n)) (strikes_of legs) strikes) ≡ strikes_of legs)
+    × (take n (left_after (has_listed (Ok n)) (nets_of legs) nets) ≡ nets_of legs))
 
 abbrev pub WorksheetGiven : Type 0
-WorksheetGiven = (placement : List ℕ) (g a b : ℕ) → first_of (table_checks Placement placement) ≡ Nothing → Spread g (group_in placement g)
+WorksheetGiven = (placement : List ℕ) (g a b : ℕ) → first_of (table_checks Placement placement) ≡ Ok tt → Spread g (group_in placement g)
     → length (strikes_of (group_in placement g)) ≤ a → length (strikes_of (group_in placement g)) ≤ b
-    → worksheet_call placement g a b ≡ Entries (length (strikes_of (group_in placement g)))
+    → worksheet_call placement g a b ≡ Ok (length (strikes_of (group_in placement g)))
 
 -- ---- what is left in lent slices
 
 -- 'Nothing lent is written' on a refusal. 'In every call that succeeds, what lies past its output in a lent slice stays.'
 module _ {A : Type 0} where
-  abbrev pub Leaves : Listed → List A → List A → List A → Type 0
-  Leaves (Entries n) entries before after = (take n after ≡ entries) × (drop n after ≡ drop n before)
-  Leaves (Refused r) entries before after = after ≡ before
+  abbrev pub Leaves : Result ℕ Refusal → List A → List A → List A → Type 0
+  Leaves (Ok n) entries before after = (take n after ≡ entries) × (drop n after ≡ drop n before)
+  Leaves (Err r) entries before after = after ≡ before
 
 abbrev pub WorksheetLeaves : Type 0
 WorksheetLeaves = (placement : List ℕ) (g : ℕ) (strikes : List ℕ) (nets : List ℤ)

@@ -1,11 +1,10 @@
 -- Document 02, request 12: 'How much work a sheet may cause'.
-use Rattle.std.specs.Prelude.{ℕ, zero, suc, ◌+◌, ◌*◌, List, length}
+use Rattle.std.specs.Prelude.{ℕ, zero, suc, ◌+◌, ◌*◌, List, length, Result, Ok, Err}
 use Rattle.records.specs.Limits.{most_groups}
 use Rattle.records.specs.declared.legs.Leg.{Leg}
 use Rattle.spreads.specs.Spreads.{group_of}
 use Rattle.spreads.specs.Strikes.{strikes_of}
-use Rattle.spreads.specs.declared.answers.Listed.{Listed}
-use Rattle.spreads.specs.declared.answers.Listed.TheVariants.{Entries, Refused}
+use Rattle.records.specs.declared.refusals.Refusal.{Refusal}
 
 -- F 1 + .. + F n
 unfoldable pub total : ℕ → (ℕ → ℕ) → ℕ
@@ -27,6 +26,6 @@ work_of placement = work_up_to most_groups placement
 -- ---- beside the margins of groups
 
 -- none where they are refused
-abbrev pub work_listed : Listed → ℕ → ℕ
-work_listed (Entries n) work = work
-work_listed (Refused r) work = 0
+abbrev pub work_listed : Result ℕ Refusal → ℕ → ℕ
+work_listed (Ok n) work = work
+work_listed (Err r) work = 0

@@ -1,19 +1,12 @@
 // 'European long boxes': document 02, request 2.
 ghost use Rattle.std.specs.Prelude.{◌≡◌, ◌≤◌, length};
-ghost use Rattle.spreads.specs.Steps.Members.{legs_at, OneGroup};
+ghost use Rattle.spreads.specs.Steps.Group.{legs_in};
 ghost use Rattle.spreads.specs.Boxes.{is_box_leg};
 ghost use Rattle.spreads.specs.Steps.Boxed.{fits_box, no_kinds, with_kind, are_even, boxed_at};
 
 use crate::fact_parts::Sides;
-use crate::members::member;
-use records::{CALL, EUROPEAN, LONG, Leg, PUT, SHORT, Units};
-
-// The units of a long box, or that there is none.
-#[derive(Clone, Copy)]
-pub enum Boxed {
-    Units(u64),
-    Not,
-}
+use crate::members::Group;
+use records::{CALL, EUROPEAN, LONG, Leg, PUT, SHORT};
 
 // The units of the four kinds, of legs that all fit: each right and side has one strike.
 #[derive(Clone, Copy)]
@@ -26,25 +19,20 @@ impl Kinds {
     fn none() -> Kinds
         ensures { result ≡ no_kinds }
     {
-        let none = Sides {
-            long: Units::none(),
-            short: Units::none(),
-        };
         Kinds {
-            calls: none,
-            puts: none,
+            calls: Sides::none(),
+            puts: Sides::none(),
         }
     }
 
     // The kinds with one leg more.
+    #[tactic(auto, unfolding(crate::specs::Steps::Boxed::with_kind))]
     fn with_leg(mut self, leg: Leg) -> Kinds
         ensures { result ≡ with_kind self leg }
     {
         let units = leg.contracts.units(leg.size);
-        let calls = self.calls.with_units(leg.right == CALL, leg.side, units);
-        let puts = self.puts.with_units(leg.right == PUT, leg.side, units);
-        self.calls = calls;
-        self.puts = puts;
+        self.calls = self.calls.with_units(leg.right == CALL, leg.side, units);
+        self.puts = self.puts.with_units(leg.right == PUT, leg.side, units);
         self
     }
 
@@ -59,6 +47,7 @@ impl Kinds {
 }
 
 // Of one of the four kinds.
+#[tactic(auto, unfolding(crate::specs::Boxes::is_box_leg))]
 fn is_box_leg(low: u32, high: u32, leg: Leg) -> bool
     ensures { result ≡ is_box_leg low high leg }
 {
@@ -81,26 +70,23 @@ fn fits_box(low: u32, high: u32, expiry: u32, leg: Leg) -> bool
     (leg.style == EUROPEAN) & (leg.expiry == expiry) & is_box_leg(low, high, leg)
 }
 
-// The units of the legs at these places, where they are a long box with these strikes. One walk, left at the first leg
+// The units of a group's legs, where they are a long box with these strikes. One walk, left at the first leg
 // that does not fit: of an American group that is the first.
-pub(crate) fn box_at(placement: &[u8], members: &[u16], low: u32, high: u32) -> Boxed
-    requires one_group { OneGroup placement.now members.now }
-    requires in_bounds { 1 ≤ length members.now }
-    ensures { result ≡ boxed_at low high (legs_at placement.now members.now) }
+pub(crate) fn box_at(group: &Group<'_>, low: u32, high: u32) -> Option<u64>
+    requires { 1 ≤ length group.now.members.now }
+    ensures { result ≡ boxed_at low high (legs_in group.now) }
 {
-    let expiry = member(placement, members, 0).expiry;
+    let expiry = group.leg(0).expiry;
     let mut kinds = Kinds::none();
-    let mut i: usize = 0;
-    while i < members.len() {
-        let leg = member(placement, members, i);
+    for i in 0..group.len() {
+        let leg = group.leg(i);
         if !fits_box(low, high, expiry, leg) {
-            return Boxed::Not;
+            return None;
         }
         kinds = kinds.with_leg(leg);
-        i += 1;
     }
     if (low < high) & kinds.even() {
-        return Boxed::Units(kinds.calls.long.number());
+        return Some(kinds.calls.long.number());
     }
-    Boxed::Not
+    None
 }

@@ -1,4 +1,5 @@
 -- Lines and records of which none is refused: each is taken, and where each is taken, none is refused.
+use Rattle.std.specs.Prelude.{Ok}
 use Prim.Native.Nat.{ℕ, ◌+◌, ◌*◌, ◌≤◌}
 use mathlib.Core.Path.{◌≡◌, sym}
 use mathlib.Core.Bool.{true}
@@ -10,15 +11,12 @@ use Rattle.records.specs.Lists.{All}
 use Rattle.records.specs.Order.{ask, first_of}
 use Rattle.records.specs.Limits.{most_legs}
 use Rattle.records.specs.Tables.{whole_table, good_unpaid}
-use Rattle.records.specs.declared.refusals.Fault.TheVariants.{Nothing}
 use Rattle.records.specs.declared.tables.Kind.TheVariants.{Holdings}
 use Rattle.records.proofs.OrderLaws.{first_then}
 use Rattle.records.proofs.PassLaws.{Pass, clear, unclear, pass_left, pass_right}
 use Rattle.symbols.specs.Lines.{lines_of, well_formed, line_says, line_in_range}
 use Rattle.symbols.specs.Roots.{roots_of, root_checks}
 use Rattle.symbols.specs.Calls.{known_root, line_checks, record_room, import_checks, import_call, known_terms, record_checks, list_of, list_room, export_checks, export_call}
-use Rattle.symbols.specs.declared.imports.Imported.TheVariants.{Records}
-use Rattle.symbols.specs.declared.exports.Exported.TheVariants.{Bytes}
 use Rattle.symbols.proofs.AnswerLaws.{imported_records, exported_bytes}
 
 -- what holds of a line that is taken
@@ -56,11 +54,11 @@ module _ (roots : List (List ℕ)) where
 -- ---- a call that is not refused
 
 pub record Imports (roots list : List ℕ) : Type 0 where
-  pub table : first_of (root_checks roots) ≡ Nothing
+  pub table : first_of (root_checks roots) ≡ Ok tt
   pub lines : All (TakenLine (roots_of roots)) (lines_of list)
   pub few : length (lines_of list) ≤ most_legs
 
-pub import_clear : (roots list : List ℕ) (room n : ℕ) → import_call roots list room ≡ Records n → Imports roots list × (n ≡ length (lines_of list))
+pub import_clear : (roots list : List ℕ) (room n : ℕ) → import_call roots list room ≡ Ok n → Imports roots list × (n ≡ length (lines_of list))
 unfolding import_call import_checks record_room
 import_clear roots list room n e =
     let r = imported_records (first_of (import_checks roots list room)) (length (lines_of list)) n (sym e) in
@@ -76,7 +74,7 @@ import_clear roots list room n e =
       r.1,
     )
 
-pub clear_import : (roots list : List ℕ) (room : ℕ) → Imports roots list → 32 * length (lines_of list) ≤ room → import_call roots list room ≡ Records (length (lines_of list))
+pub clear_import : (roots list : List ℕ) (room : ℕ) → Imports roots list → 32 * length (lines_of list) ≤ room → import_call roots list room ≡ Ok (length (lines_of list))
 unfolding import_call import_checks record_room first_of
 clear_import roots list room i h =
     rw (
@@ -87,11 +85,11 @@ clear_import roots list room i h =
     )
 
 pub record Exports (roots holdings : List ℕ) : Type 0 where
-  pub table : first_of (root_checks roots) ≡ Nothing
+  pub table : first_of (root_checks roots) ≡ Ok tt
   pub whole : whole_table Holdings (length holdings) ≡ true
   pub records : All (TakenRecord (roots_of roots)) (records_of holdings)
 
-pub export_clear : (roots h : List ℕ) (room n : ℕ) → export_call roots h room ≡ Bytes n → Exports roots h × (n ≡ length (list_of roots h))
+pub export_clear : (roots h : List ℕ) (room n : ℕ) → export_call roots h room ≡ Ok n → Exports roots h × (n ≡ length (list_of roots h))
 unfolding export_call export_checks
 export_clear roots h room n e =
     let r = exported_bytes (first_of (export_checks roots h room)) (length (list_of roots h)) n (sym e) in
@@ -108,7 +106,7 @@ export_clear roots h room n e =
       r.1,
     )
 
-pub clear_export : (roots h : List ℕ) (room : ℕ) → Exports roots h → length (list_of roots h) ≤ room → export_call roots h room ≡ Bytes (length (list_of roots h))
+pub clear_export : (roots h : List ℕ) (room : ℕ) → Exports roots h → length (list_of roots h) ≤ room → export_call roots h room ≡ Ok (length (list_of roots h))
 unfolding export_call export_checks list_room first_of
 clear_export roots h room i r =
     rw (

@@ -10,7 +10,6 @@ mod CharLaws
 mod WriteLaws
 -- the table of roots
 mod RootLaws
-mod PlaceLaws
 mod ApartLaws
 -- lines: cut out of a list, written, read
 mod SplitLaws

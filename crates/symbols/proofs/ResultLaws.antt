@@ -1,4 +1,5 @@
 -- What the two calls leave, one after the other and each by itself.
+use Rattle.std.specs.Prelude.{Result, Ok, Err}
 use Prim.Native.Nat.{ℕ, ◌*◌, ◌/◌, ◌≤◌}
 use mathlib.Core.Path.{◌≡◌, refl, sym, ◌∙◌}
 use mathlib.Core.Bool.{true, and-eq-true_iff, not}
@@ -11,7 +12,6 @@ use Rattle.records.specs.Lists.{All}
 use Rattle.records.specs.Order.{first_of}
 use Rattle.records.specs.Tables.{table_checks, field_checks, check_call, good_record, legs_of, good_unpaid}
 use Rattle.records.specs.Written.{put_at}
-use Rattle.records.specs.declared.refusals.Fault.TheVariants.{Nothing}
 use Rattle.records.specs.declared.tables.Kind.TheVariants.{Holdings}
 use Rattle.records.proofs.ChunkLaws.{length_chunks}
 use Rattle.records.proofs.ListLaws.{all_map, map_all}
@@ -22,15 +22,12 @@ use Rattle.symbols.specs.Calls.{leg_of_line, records_for, holdings_of, line_of_r
 use Rattle.symbols.specs.Demands.{ImportInOrder, ExportInOrder, ListFits, CallsImportBack, CallsExportBack, ImportSound, ImportUnpaid, EmptyListGood, LeftByImport, ImportLeaves, LeftByExport, ExportLeaves}
 use Rattle.symbols.specs.Lines.{lines_of}
 use Rattle.symbols.specs.Roots.{roots_of}
-use Rattle.symbols.specs.declared.imports.Imported.{Imported}
-use Rattle.symbols.specs.declared.imports.Imported.TheVariants.{Records, Refused}
-use Rattle.symbols.specs.declared.exports.Exported.{Exported}
-use Rattle.symbols.specs.declared.exports.Exported.TheVariants.{Bytes, Refused as NotExported}
 use Rattle.symbols.proofs.ClearLaws.{TakenLine, TakenRecord, Imports, import_clear, clear_import, export_clear}
-use Rattle.symbols.proofs.ExportLaws.{number_none, record_short}
-use Rattle.symbols.proofs.RootLaws.{GoodRoots, roots_good}
+use Rattle.symbols.proofs.ExportLaws.{record_short}
+use Rattle.symbols.proofs.RootLaws.{GoodRoots, roots_good, root_size}
 use Rattle.symbols.proofs.RoundTrips.{import_of_export, export_of_import, made_records, made_taken, made_length, made_whole, line_leg_again, line_unpaid, exported_lines}
 use Rattle.symbols.proofs.WriteLaws.{front_is}
+use Rattle.records.specs.declared.refusals.Refusal.{Refusal}
 
 -- ---- what import makes
 
@@ -45,7 +42,7 @@ import_sound t list room n e =
     let i = c.0 in
     let h = holdings_of t list in
     let k : length h / 32 ≡ n = omega (arith, made_length t list i, c.1) in
-    let f : first_of (field_checks Holdings h) ≡ Nothing =
+    let f : first_of (field_checks Holdings h) ≡ (Ok tt) =
     unclear (field_checks Holdings h) (each_pass (good_record Holdings) 4 1 0 (records_of h) (all_map (records_of h) (unpaid_good (roots_of t)) (made_taken t list i))) in
     rw (made_whole t list i, f, k)
 
@@ -83,8 +80,7 @@ lines_short : (t : List ℕ) (rs : List (List ℕ)) → All (TakenRecord (roots_
 unfolding lines_for flatten
 lines_short t [] a = omega arith
 lines_short t (xs ∷ rs) a =
-    let n = number_none (roots_of t) 0 xs rs a.0.good a.0.known in
-    rw (length-append (line_of_record (roots_of t) xs) (lines_for (roots_of t) rs)) (omega (arith, record_short t xs (sym n), lines_short t rs a.1))
+    rw (length-append (line_of_record (roots_of t) xs) (lines_for (roots_of t) rs)) (omega (arith, record_short (roots_of t) (root_size t) xs a.0.known, lines_short t rs a.1))
 
 pub list_fits : ListFits
 unfolding list_of
@@ -117,15 +113,15 @@ calls_export_back t list d out n e k =
 pub import_leaves : ImportLeaves
 import_leaves t list d = go (import_call t list (length d)) refl
   where
-    go : (r : Imported) → import_call t list (length d) ≡ r → LeftByImport r t list d
-    go (Records n) e =
+    go : (r : Result ℕ Refusal) → import_call t list (length d) ≡ r → LeftByImport r t list d
+    go (Ok n) e =
         let c = import_clear t list (length d) n e in
         (made_length t list c.0 ∙ rw c.1, left_stands d (holdings_of t list))
-    go (Refused r) e = refl
+    go (Err r) e = refl
 
 pub export_leaves : ExportLeaves
 export_leaves t h d = go (export_call t h (length d)) refl
   where
-    go : (r : Exported) → export_call t h (length d) ≡ r → LeftByExport r t h d
-    go (Bytes n) e = (sym (export_clear t h (length d) n e).1, left_stands d (list_of t h))
-    go (NotExported r) e = refl
+    go : (r : Result ℕ Refusal) → export_call t h (length d) ≡ r → LeftByExport r t h d
+    go (Ok n) e = (sym (export_clear t h (length d) n e).1, left_stands d (list_of t h))
+    go (Err r) e = refl

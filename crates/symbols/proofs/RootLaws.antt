@@ -1,76 +1,73 @@
--- The table of roots: walked, looked up, and what a table that passed its check has.
+-- The table of roots: cut into its entries, looked up, checked, and what a table that passed its check has.
+use Rattle.std.specs.Prelude.{Result, Ok, Err, Some, None}
+use Rattle.std.specs.List.{find}
+use Rattle.std.specs.Simd.{first_chunks}
 use Prim.Native.Nat.{ℕ, zero, suc, ◌+◌, ◌/◌, ◌%◌, ◌≤◌, ◌<◌}
-use mathlib.Core.Path.{◌≡◌, refl, ◌∙◌}
-use mathlib.Core.Bool.{Bool, true, false, not, cond, ◌&&◌, ◌||◌, and-eq-true_iff}
+use mathlib.Core.Path.{◌≡◌, refl}
+use mathlib.Core.Bool.{Bool, true, false, not, cond, ◌&&◌, and-eq-true_iff, and-true, and-false}
 use mathlib.Core.List.{List, [], ◌∷◌, ◌++◌, append_assoc, append-nil}
 use native.Mathlib.Numerals.{add-one}
 use native.Mathlib.Omega.{arith}
-use lib.Dec.{eqb}
-use lib.ListN.{length, get_or, take, drop, length-take, length-drop}
-use lib.Seq.{take-suc, get_or-take, length-take-le}
-use borrow.Author.Tests.{eqb-true, not-true}
-use Rattle.records.specs.Steps.Rest.{chunks_from}
-use Rattle.records.specs.Chunks.{chunk_at}
+use lib.Dec.{eqb, ltb}
+use lib.ListN.{length, get_or, take, drop, length-take, length-drop, drop_of_length-le}
+use lib.Seq.{take-suc, drop-cons}
+use borrow.Author.Tests.{eqb-true, not-true, lt-ltb, le-ltb, ltb-true, ltb-false}
 use Rattle.records.specs.Lists.{same, all_of}
 use Rattle.records.specs.Order.{ask, refuse, first_of}
 use Rattle.records.specs.Within.{within}
-use Rattle.records.specs.declared.refusals.Fault.{Fault}
-use Rattle.records.specs.declared.refusals.Fault.TheVariants.{Nothing, Is}
-use Rattle.records.proofs.ChunkLaws.{chunks_all, chunks_step, chunks_none, length_chunks, get_or_chunks}
+use Rattle.records.proofs.ChunkLaws.{length_chunks, get_or_chunks}
 use Rattle.records.proofs.PassLaws.{Pass, clear}
 use Rattle.records.proofs.TableLaws.{within_true}
-use Rattle.symbols.proofs.RunLaws.{all_next, all_stop, all_over}
-use Rattle.symbols.specs.Roots.{roots_of, name_of, terms_of, same_terms, good_root, repeats, fresh, ask_roots, whole_roots, root_checks, place_where}
+use Rattle.symbols.proofs.RunLaws.{parts_cut}
+use Rattle.symbols.specs.Roots.{roots_of, same_terms, good_root, fresh, ask_roots, whole_roots, root_checks, place_where}
+use Rattle.symbols.specs.declared.roots.Terms.{Terms}
+use Rattle.records.specs.declared.refusals.Refusal.{Refusal}
 
--- ---- the entries one after the other
+-- ---- the entries
 
 module _ (t : List ℕ) where
-  -- those from entry i on
-  abbrev pub roots_from : ℕ → List (List ℕ)
-  roots_from i = chunks_from 16 (length t / 16) i t
-
-  pub roots_all : roots_from 0 ≡ roots_of t
-  unfolding roots_of
-  roots_all = chunks_all 16 (length t / 16) t
-
-  pub roots_next : (i : ℕ) → i < length t / 16 → roots_from i ≡ chunk_at 16 t i ∷ roots_from (i + 1)
-  roots_next i h = chunks_step 16 (length t / 16) i t h
-
-  pub roots_none : (i : ℕ) → length t / 16 ≤ i → roots_from i ≡ []
-  roots_none i h = chunks_none 16 (length t / 16) i t h
-
   pub length_roots : length (roots_of t) ≡ length t / 16
   unfolding roots_of
   length_roots = length_chunks 16 (length t / 16) t
 
-  pub root_at : (i : ℕ) → i < length t / 16 → get_or (roots_of t) i [] ≡ chunk_at 16 t i
+  -- as code cuts them
+  pub roots_cut : first_chunks 16 (length t / 16) t ≡ roots_of t
   unfolding roots_of
-  root_at i h = get_or_chunks 16 (length t / 16) i t h
+  roots_cut = parts_cut 16 (length t / 16) t
 
-  pub roots_more : (i : ℕ) → i < length t / 16 → take (i + 1) (roots_of t) ≡ take i (roots_of t) ++ chunk_at 16 t i ∷ []
-  roots_more i h =
-      rw (add-one i, take-suc (roots_of t) i [] (omega (arith, length_roots)), root_at i h)
-
--- a root has six characters
-pub name_length : (t : List ℕ) (i : ℕ) → i < length (roots_of t) → length (name_of (get_or (roots_of t) i [])) ≡ 6
-name_length t i h =
-    let k : i < length t / 16 = omega (arith, length_roots t) in
-    rw (root_at t i k) (simp (length-take, length-drop) (omega arith))
+  -- an entry has 16 bytes
+  pub root_size : (i : ℕ) → i < length (roots_of t) → length (get_or (roots_of t) i []) ≡ 16
+  unfolding roots_of
+  root_size i h =
+      let k : i < length t / 16 = omega (arith, length_roots) in
+      rw (get_or_chunks 16 (length t / 16) i t k) (simp (length-take, length-drop) (omega arith))
 
 -- ---- looked up
 
 module _ (t : List ℕ → Bool) where
-  pub place_hit : (e : List ℕ) (l ls : List (List ℕ)) → l ≡ e ∷ ls → t e ≡ true → place_where t l ≡ 0
+  -- an entry that is found stands at that place, and where none is found the place is past the last
+  pub find_some : (l : List (List ℕ)) (x : List ℕ) → find t l ≡ Some x → (ltb (place_where t l) (length l) ≡ true) × (get_or l (place_where t l) [] ≡ x)
   unfolding place_where
-  place_hit e l ls q h = rw (q, h)
+  find_some [] x e = let z : ◌≡◌ {A = ℕ} 0 1 = cc in absurd (omega arith)
+  find_some (y ∷ l) x e = go (t y) e (find_some l x)
+    where
+      go : (b : Bool) → cond b (Some y) (find t l) ≡ Some x
+          → (find t l ≡ Some x → (ltb (place_where t l) (length l) ≡ true) × (get_or l (place_where t l) [] ≡ x))
+          → (ltb (cond b 0 (place_where t l + 1)) (suc (length l)) ≡ true) × (get_or (y ∷ l) (cond b 0 (place_where t l + 1)) [] ≡ x)
+      go true e f = (lt-ltb 0 (suc (length l)) (omega arith), cc)
+      go false e f =
+          let h = f e in
+          (lt-ltb (place_where t l + 1) (suc (length l)) (omega (arith, ltb-true (place_where t l) (length l) h.0)), rw (add-one (place_where t l)) h.1)
 
-  pub place_miss : (e : List ℕ) (l ls : List (List ℕ)) → l ≡ e ∷ ls → t e ≡ false → place_where t l ≡ place_where t ls + 1
+  pub find_none : (l : List (List ℕ)) → find t l ≡ None → ltb (place_where t l) (length l) ≡ false
   unfolding place_where
-  place_miss e l ls q h = rw (q, h)
-
-  pub place_none : (l : List (List ℕ)) → l ≡ [] → place_where t l ≡ 0
-  unfolding place_where
-  place_none l q = rw q
+  find_none [] e = le-ltb 0 0 (omega arith)
+  find_none (y ∷ l) e = go (t y) e (find_none l)
+    where
+      go : (b : Bool) → cond b (Some y) (find t l) ≡ None → (find t l ≡ None → ltb (place_where t l) (length l) ≡ false)
+          → ltb (cond b 0 (place_where t l + 1)) (suc (length l)) ≡ false
+      go true e f = let z : ◌≡◌ {A = ℕ} 0 1 = cc in absurd (omega arith)
+      go false e f = le-ltb (place_where t l + 1) (suc (length l)) (omega (arith, ltb-false (place_where t l) (length l) (f e)))
 
   -- what is found passes the test
   pub place_found : (l : List (List ℕ)) → place_where t l < length l → t (get_or l (place_where t l) []) ≡ true
@@ -110,7 +107,7 @@ pub record GoodRoots (t : List ℕ) : Type 0 where
   pub good : (p : ℕ) → p < length (roots_of t) → good_root (get_or (roots_of t) p []) ≡ true
   pub apart : (p : ℕ) → p < length (roots_of t) → fresh (take p (roots_of t)) (get_or (roots_of t) p []) ≡ true
 
-pub roots_good : (t : List ℕ) → first_of (root_checks t) ≡ Nothing → GoodRoots t
+pub roots_good : (t : List ℕ) → first_of (root_checks t) ≡ Ok tt → GoodRoots t
 unfolding root_checks
 roots_good t e =
     let a = clear (ask (whole_roots (length t)) 23 5 0 ∷ ask_roots [] 0 (roots_of t)) e in
@@ -124,62 +121,40 @@ roots_good t e =
 
 -- ---- the check of a table, entry by entry
 
-module _ (t : List ℕ) (i : ℕ) where
-  -- what is asked of the entries from j on before entry i
-  unfoldable pub fresh_from : ℕ → Bool
-  fresh_from j = all_of (λ f. not (repeats (chunk_at 16 t i) f)) (drop j (take i (roots_of t)))
-
-  pub fresh_all : fresh (take i (roots_of t)) (chunk_at 16 t i) ≡ fresh_from 0
-  unfolding fresh fresh_from
-  fresh_all = refl
-
-  module _ (j : ℕ) where
-    before_at : j < i → i < length t / 16 → (j < length (take i (roots_of t))) × (get_or (take i (roots_of t)) j [] ≡ chunk_at 16 t j)
-    before_at h g =
-        let l = length_roots t in
-        let k : length (take i (roots_of t)) ≡ i = length-take-le i (roots_of t) (omega arith) in
-        (omega arith, get_or-take i (roots_of t) j [] h ∙ root_at t j (omega arith))
-
-    pub fresh_next : j < i → i < length t / 16 → repeats (chunk_at 16 t i) (chunk_at 16 t j) ≡ false → fresh_from j ≡ fresh_from (j + 1)
-    unfolding fresh_from
-    fresh_next h g e =
-        let b = before_at h g in
-        all_next [] (λ f. not (repeats (chunk_at 16 t i) f)) (take i (roots_of t)) j b.0 (rw (b.1, e))
-
-    pub fresh_stop : j < i → i < length t / 16 → repeats (chunk_at 16 t i) (chunk_at 16 t j) ≡ true → fresh_from j ≡ false
-    unfolding fresh_from
-    fresh_stop h g e =
-        let b = before_at h g in
-        all_stop [] (λ f. not (repeats (chunk_at 16 t i) f)) (take i (roots_of t)) j b.0 (rw (b.1, e))
-
-    pub fresh_over : i ≤ j → fresh_from j ≡ true
-    unfolding fresh_from
-    fresh_over h =
-        all_over [] (λ f. not (repeats (chunk_at 16 t i) f)) (take i (roots_of t)) j (simp length-take (omega arith))
-
-pub repeats_is : (e f : List ℕ) (a b c : Bool) → a ≡ same (name_of e) (name_of f) → b ≡ same_terms (terms_of e) (terms_of f) → (a || b) ≡ c → repeats e f ≡ c
-unfolding repeats
-repeats_is e f a b c p q r = rw (← p, ← q) r
-
-module _ (t : List ℕ) (i : ℕ) where
+module _ (roots : List (List ℕ)) (i : ℕ) where
   -- what is left to be asked from entry i on
-  unfoldable pub asked_from : Fault
-  asked_from = first_of (ask_roots (take i (roots_of t)) i (roots_from t i))
+  unfoldable pub asked_from : Result Unit Refusal
+  asked_from = first_of (ask_roots (take i roots) i (drop i roots))
 
-module _ (t : List ℕ) where
-  pub ask_all : first_of (ask_roots [] 0 (roots_of t)) ≡ asked_from t 0
+module _ (roots : List (List ℕ)) where
+  pub ask_all : first_of (ask_roots [] 0 roots) ≡ asked_from roots 0
   unfolding asked_from
-  ask_all = rw (roots_all t)
+  ask_all = refl
 
   module _ (i : ℕ) where
-    pub ask_next : i < length t / 16 → (good_root (chunk_at 16 t i) && fresh (take i (roots_of t)) (chunk_at 16 t i)) ≡ true → asked_from t i ≡ asked_from t (i + 1)
-    unfolding asked_from ask_roots first_of
-    ask_next h e = rw (roots_next t i h, e, roots_more t i h)
+    -- what is asked of entry i
+    abbrev asked : Bool
+    asked = good_root (get_or roots i []) && fresh (take i roots) (get_or roots i [])
 
-    pub ask_stop : i < length t / 16 → (good_root (chunk_at 16 t i) && fresh (take i (roots_of t)) (chunk_at 16 t i)) ≡ false → asked_from t i ≡ Is (refuse 23 5 i)
+    pub ask_next : i < length roots → asked ≡ true → asked_from roots i ≡ asked_from roots (i + 1)
     unfolding asked_from ask_roots first_of
-    ask_stop h e = rw (roots_next t i h, e)
+    ask_next h e = rw (drop-cons roots i [] h, e, add-one i, take-suc roots i [] h)
 
-    pub ask_over : length t / 16 ≤ i → asked_from t i ≡ Nothing
+    pub ask_stop : i < length roots → asked ≡ false → asked_from roots i ≡ Err (refuse 23 5 i)
     unfolding asked_from ask_roots first_of
-    ask_over h = rw (roots_none t i h)
+    ask_stop h e = rw (drop-cons roots i [] h, e)
+
+    pub ask_over : length roots ≤ i → asked_from roots i ≡ Ok tt
+    unfolding asked_from ask_roots first_of
+    ask_over h = rw (drop_of_length-le roots h)
+
+-- ---- two terms compared, the underlying first
+
+underlying_first : (u s m z t : Bool) → (u && (s && (m && (z && t)))) ≡ (s && (m && (z && (t && (u && true)))))
+underlying_first true s m z t = simp and-true
+underlying_first false s m z t = simp and-false
+
+pub terms_eq : (a b : Terms)
+    → (eqb a.underlying b.underlying && (eqb a.style b.style && (eqb a.market b.market && (eqb a.size b.size && eqb a.settlement b.settlement)))) ≡ same_terms a b
+unfolding same_terms same
+terms_eq a b = underlying_first (eqb a.underlying b.underlying) (eqb a.style b.style) (eqb a.market b.market) (eqb a.size b.size) (eqb a.settlement b.settlement)

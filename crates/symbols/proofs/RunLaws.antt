@@ -1,36 +1,43 @@
--- A run of bytes looked at one by one: what is asked of the bytes from i on, and from the next on.
-use Prim.Native.Nat.{ℕ, ◌+◌, ◌-◌, ◌*◌, ◌≤◌, ◌<◌}
-use mathlib.Core.Path.{◌≡◌}
+-- A run of elements looked at one by one: what is asked of those from i on, and from the next on.
+use Prim.Native.Nat.{ℕ, zero, suc, ◌+◌, ◌-◌, ◌*◌, ◌≤◌, ◌<◌}
+use mathlib.Core.Path.{◌≡◌, refl}
 use mathlib.Core.Bool.{Bool, true, false, ◌||◌}
-use mathlib.Core.List.{List, ◌∷◌}
+use mathlib.Core.List.{List, [], ◌∷◌}
 use native.Mathlib.Numerals.{add-one}
-use lib.ListN.{length, get_or, drop, drop_of_length-le}
-use lib.Seq.{drop-cons}
+use native.Mathlib.Omega.{arith}
+use lib.ListN.{length, get_or, take, drop, length-drop, drop_of_length-le}
+use lib.Seq.{drop-cons, take_all}
 use borrow.Author.Tests.{ne_eqb}
+use Rattle.std.specs.List.{list_all}
+use Rattle.std.specs.Simd.{first_chunks}
+use Rattle.records.specs.Chunks.{chunks}
 use Rattle.records.specs.Lists.{all_of}
-use Rattle.records.specs.Text.{newline, value_from}
+use Rattle.records.specs.Text.{value_from}
 use Rattle.symbols.specs.Digits.{is_blank, is_letter, is_digit}
 use Rattle.symbols.specs.Roots.{padded}
-use Rattle.symbols.specs.Steps.Numbers.{line_length}
 
 -- the byte at i, and those behind it
 pub from_next : (l : List ℕ) (i : ℕ) → i < length l → drop i l ≡ get_or l i 0 ∷ drop (i + 1) l
 from_next l i h = rw add-one (drop-cons l i 0 h)
 
+-- all that stands from i on, as code takes it
+pub from_there : (i : ℕ) (l : List ℕ) → take (length l - i) (drop i l) ≡ drop i l
+from_there i l = take_all (length l - i) (drop i l) (rw (length-drop i l) (omega arith))
+
 -- ---- a test of every element
 
-module _ {A : Type 0} (z : A) (t : A → Bool) (l : List A) (i : ℕ) where
-  pub all_next : i < length l → t (get_or l i z) ≡ true → all_of t (drop i l) ≡ all_of t (drop (i + 1) l)
-  unfolding all_of
-  all_next h e = rw (add-one i, drop-cons l i z h, e)
+-- std's word for it, of what `all` answered
+pub all_listed : {A : Type 0} (t : A → Bool) (l : List A) → list_all t l ≡ all_of t l
+unfolding all_of
+all_listed t [] = refl
+all_listed t (x ∷ l) = rw (all_listed t l)
 
-  pub all_stop : i < length l → t (get_or l i z) ≡ false → all_of t (drop i l) ≡ false
-  unfolding all_of
-  all_stop h e = rw (drop-cons l i z h, e)
+-- ---- parts of one size, as std cuts them
 
-  pub all_over : length l ≤ i → all_of t (drop i l) ≡ true
-  unfolding all_of
-  all_over h = rw (drop_of_length-le l h)
+pub parts_cut : (size n : ℕ) (l : List ℕ) → first_chunks size n l ≡ chunks size n l
+unfolding chunks
+parts_cut size zero l = refl
+parts_cut size (suc n) l = rw (parts_cut size n (drop size l))
 
 -- ---- a root's characters
 
@@ -60,17 +67,3 @@ module _ (l : List ℕ) (i : ℕ) where
   pub value_over : (v : ℕ) → length l ≤ i → value_from v (drop i l) ≡ v
   unfolding value_from
   value_over v h = rw (drop_of_length-le l h)
-
-  -- ---- the first line
-
-  pub line_next : i < length l → (get_or l i 0 ≡ newline → ⊥) → line_length (drop i l) ≡ line_length (drop (i + 1) l) + 1
-  unfolding line_length
-  line_next h e = rw (from_next l i h, ne_eqb (get_or l i 0) newline e)
-
-  pub line_found : i < length l → get_or l i 0 ≡ newline → line_length (drop i l) ≡ 1
-  unfolding line_length
-  line_found h e = rw (from_next l i h, e)
-
-  pub line_over : length l ≤ i → line_length (drop i l) ≡ 0
-  unfolding line_length
-  line_over h = rw (drop_of_length-le l h)

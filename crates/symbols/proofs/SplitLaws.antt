@@ -1,52 +1,39 @@
 -- A list cut into its lines: the first of them and the rest, joined again, and lines joined that are cut again.
-use Prim.Native.Nat.{ℕ, suc, ◌+◌, ◌≤◌}
+use Prim.Native.Nat.{ℕ, zero, suc, ◌+◌, ◌≤◌, ◌<◌, min}
+use Rattle.std.specs.List.{IsFirstMatchOrLen}
 use mathlib.Core.Path.{◌≡◌, refl, ap, ◌∙◌}
 use mathlib.Core.Bool.{Bool, true, false, cond, and-eq-true_iff}
 use mathlib.Core.List.{List, [], ◌∷◌, ◌++◌, flatten}
-use native.Mathlib.Numerals.{add-one}
 use native.Mathlib.Omega.{arith}
 use lib.Dec.{eqb, leb}
-use lib.ListN.{length, take, drop}
+use lib.ListN.{length, get_or}
 use borrow.Author.Tests.{ne_eqb, leb-true}
 use Rattle.records.specs.Lists.{all_of, All}
 use Rattle.records.specs.Text.{newline, onto}
 use Rattle.symbols.specs.Lines.{lines_of}
-use Rattle.symbols.specs.Steps.Numbers.{line_length}
 
-pub line_some : (l : List ℕ) → 1 ≤ length l → 1 ≤ line_length l
-unfolding line_length
-line_some [] h = absurd (omega arith)
-line_some (c ∷ cs) h = go (eqb c newline)
+-- the first line, which ends at the first newline or is all there is, and the lines of the rest
+pub lines_step : (x r : List ℕ) (i : ℕ) → 1 ≤ length (x ++ r) → length x ≡ min (i + 1) (length (x ++ r))
+    → ((k : ℕ) → k < i → eqb (get_or (x ++ r) k 0) newline ≡ false) → (i < length (x ++ r) → eqb (get_or (x ++ r) i 0) newline ≡ true)
+    → lines_of (x ++ r) ≡ x ∷ lines_of r
+unfolding lines_of
+lines_step [] r i h l f g = absurd (omega arith)
+lines_step (c ∷ []) [] i h l f g = go (eqb c newline)
   where
-    go : (b : Bool) → 1 ≤ cond b 1 (line_length cs + 1)
-    go true = omega arith
-    go false = omega arith
-
-pub line_within : (l : List ℕ) → line_length l ≤ length l
-unfolding line_length
-line_within [] = omega arith
-line_within (c ∷ cs) = go (eqb c newline) (line_within cs)
-  where
-    go : (b : Bool) → line_length cs ≤ length cs → cond b 1 (line_length cs + 1) ≤ suc (length cs)
-    go true h = omega arith
-    go false h = omega arith
-
--- the first line, and the lines of the rest
-pub lines_step : (l : List ℕ) → 1 ≤ length l → lines_of l ≡ take (line_length l) l ∷ lines_of (drop (line_length l) l)
-unfolding line_length lines_of
-lines_step [] h = absurd (omega arith)
-lines_step (c ∷ []) h = go (eqb c newline)
-  where
-    go : (b : Bool) → cond b ((c ∷ []) ∷ lines_of []) (onto c (lines_of [])) ≡ take (cond b 1 (line_length [] + 1)) (c ∷ []) ∷ lines_of (drop (cond b 1 (line_length [] + 1)) (c ∷ []))
+    go : (b : Bool) → cond b ((c ∷ []) ∷ []) (onto c []) ≡ (c ∷ []) ∷ []
     go true = refl
     go false = refl
-lines_step (c ∷ d ∷ cs) h = go (eqb c newline) (lines_step (d ∷ cs) (omega arith))
-  where
-    go : (b : Bool) → lines_of (d ∷ cs) ≡ take (line_length (d ∷ cs)) (d ∷ cs) ∷ lines_of (drop (line_length (d ∷ cs)) (d ∷ cs))
-        → cond b ((c ∷ []) ∷ lines_of (d ∷ cs)) (onto c (lines_of (d ∷ cs)))
-        ≡ take (cond b 1 (line_length (d ∷ cs) + 1)) (c ∷ d ∷ cs) ∷ lines_of (drop (cond b 1 (line_length (d ∷ cs) + 1)) (c ∷ d ∷ cs))
-    go true e = refl
-    go false e = rw (e, add-one (line_length (d ∷ cs)))
+lines_step (c ∷ []) (d ∷ r) zero h l f g = rw (g (omega arith))
+lines_step (c ∷ []) (d ∷ r) (suc i) h l f g = absurd (omega arith)
+lines_step (c ∷ d ∷ x) r zero h l f g = absurd (omega arith)
+lines_step (c ∷ d ∷ x) r (suc i) h l f g =
+    rw (f 0 (omega arith), lines_step (d ∷ x) r i (omega arith) (omega arith) (λ k q. f (suc k) (omega arith)) (λ q. g (omega arith)))
+
+-- the same, as `split_inclusive` cuts off the line
+pub line_cut : (l x r : List ℕ) → l ≡ x ++ r → (i : ℕ) → length x ≡ min (i + 1) (length l) → IsFirstMatchOrLen (λ c. eqb c newline) l i → 1 ≤ length l
+    → lines_of l ≡ x ∷ lines_of r
+line_cut l x r e i n f h =
+    rw e (lines_step x r i (rw e at h) (rw e at n) (λ k q. rw e at (f.0 k 0 (omega arith) q)) (λ q. let j : i < length l = rw e q in rw e at (f.1 j 0)))
 
 pub lines_none : lines_of [] ≡ []
 unfolding lines_of
@@ -82,3 +69,8 @@ ended (c ∷ body) e rest =
     let p = (and-eq-true_iff (leb 32 c) (all_of (leb 32) body)).0 e in
     let h = leb-true 32 c p.0 in
     rw (ne_eqb c newline (λ q. omega arith), ended body p.1 rest)
+
+-- nothing is left
+pub emptied : (l : List ℕ) → length l ≡ 0 → l ≡ []
+emptied [] e = refl
+emptied (c ∷ cs) e = absurd (omega arith)

@@ -1,5 +1,5 @@
 -- What import and export answer, and what they leave in the slice that they are lent.
-use Rattle.std.specs.Prelude.{ℕ, ◌+◌, ◌*◌, Bool, true, false, leb, ltb, length, get_or}
+use Rattle.std.specs.Prelude.{ℕ, ◌+◌, ◌*◌, Bool, true, false, leb, ltb, length, get_or, Result, Ok, Err}
 use mathlib.Core.List.{List, [], ◌∷◌, ◌++◌, map, flatten}
 use Rattle.records.specs.Chunks.{records_of}
 use Rattle.records.specs.Legs.{leg_of, leg_bytes}
@@ -7,15 +7,10 @@ use Rattle.records.specs.Order.{Check, ask, first_of}
 use Rattle.records.specs.Limits.{record_bytes, most_legs}
 use Rattle.records.specs.Tables.{good_unpaid, whole_table}
 use Rattle.records.specs.declared.legs.Leg.{Leg}
-use Rattle.records.specs.declared.refusals.Fault.{Fault}
-use Rattle.records.specs.declared.refusals.Fault.TheVariants.{Nothing, Is}
 use Rattle.records.specs.declared.tables.Kind.TheVariants.{Holdings}
 use Rattle.symbols.specs.Roots.{roots_of, name_of, terms_of, root_checks, place_of_name, place_of_terms, leg_terms}
 use Rattle.symbols.specs.Lines.{lines_of, root_in, well_formed, line_says, line_in_range, line_leg, line_text}
-use Rattle.symbols.specs.declared.imports.Imported.{Imported}
-use Rattle.symbols.specs.declared.imports.Imported.TheVariants.{Records, Refused}
-use Rattle.symbols.specs.declared.exports.Exported.{Exported}
-use Rattle.symbols.specs.declared.exports.Exported.TheVariants.{Bytes, Refused as NotExported}
+use Rattle.records.specs.declared.refusals.Refusal.{Refusal}
 
 -- ---- import: 'makes holdings in line order'
 
@@ -50,18 +45,18 @@ records_for roots lines = flatten (map (λ xs. leg_bytes (leg_of_line roots xs))
 unfoldable pub holdings_of : List ℕ → List ℕ → List ℕ
 holdings_of roots list = records_for (roots_of roots) (lines_of list)
 
-abbrev pub import_answer : Fault → ℕ → Imported
-import_answer Nothing records = Records records
-import_answer (Is r) records = Refused r
+abbrev pub import_answer : Result Unit Refusal → ℕ → Result ℕ Refusal
+import_answer (Ok _) records = Ok records
+import_answer (Err r) records = Err r
 
 -- with a lent table of so many bytes
-unfoldable pub import_call : List ℕ → List ℕ → ℕ → Imported
+unfoldable pub import_call : List ℕ → List ℕ → ℕ → Result ℕ Refusal
 import_call roots list room = import_answer (first_of (import_checks roots list room)) (length (lines_of list))
 
 -- whether the lent table then has the holdings, `left_after`
-abbrev pub has_imported : Imported → Bool
-has_imported (Records n) = true
-has_imported (Refused r) = false
+abbrev pub has_imported : Result ℕ Refusal → Bool
+has_imported (Ok n) = true
+has_imported (Err r) = false
 
 -- ---- 'export is the reverse'
 
@@ -99,14 +94,14 @@ export_checks roots holdings room =
     ++ (ask (whole_table Holdings (length holdings)) 1 0 0
     ∷ (record_checks (roots_of roots) 0 (records_of holdings) ++ list_room (length (list_of roots holdings)) room))
 
-abbrev pub export_answer : Fault → ℕ → Exported
-export_answer Nothing bytes = Bytes bytes
-export_answer (Is r) bytes = NotExported r
+abbrev pub export_answer : Result Unit Refusal → ℕ → Result ℕ Refusal
+export_answer (Ok _) bytes = Ok bytes
+export_answer (Err r) bytes = Err r
 
 -- with a lent list of so many bytes
-unfoldable pub export_call : List ℕ → List ℕ → ℕ → Exported
+unfoldable pub export_call : List ℕ → List ℕ → ℕ → Result ℕ Refusal
 export_call roots holdings room = export_answer (first_of (export_checks roots holdings room)) (length (list_of roots holdings))
 
-abbrev pub has_exported : Exported → Bool
-has_exported (Bytes n) = true
-has_exported (NotExported r) = false
+abbrev pub has_exported : Result ℕ Refusal → Bool
+has_exported (Ok n) = true
+has_exported (Err r) = false

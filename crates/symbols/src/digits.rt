@@ -14,25 +14,14 @@ pub(crate) fn is_digit(c: u8) -> bool
 pub(crate) fn all_digits(part: &[u8]) -> bool
     ensures { result ≡ all_of is_digit part.now }
 {
-    let mut i: usize = 0;
-    while i < part.len() {
-        if is_digit(part[i]) {
-            i += 1;
-        } else {
-            return false;
-        }
-    }
-    true
+    part.iter().all(|c| is_digit(*c))
 }
 
 // What a digit says. Its callers learn how much any byte can say.
 fn digit_value(c: u8) -> u32
     ensures { (result ≡ c - 48) × (result ≤ 207) }
 {
-    if c < b'0' {
-        return 0;
-    }
-    (c - b'0') as u32
+    u32::from(c.saturating_sub(b'0'))
 }
 
 // The number that at most eight digits say. Its callers learn how much any eight bytes can say.
@@ -40,11 +29,9 @@ pub(crate) fn number_of(part: &[u8]) -> u32
     requires { length part.now ≤ 8 }
     ensures { (result ≡ value_of part.now) × (result ≤ 2300000000) }
 {
-    let mut value: u32 = 0;
-    let mut i: usize = 0;
-    while i < part.len() {
-        value = 10 * value + digit_value(part[i]);
-        i += 1;
+    let mut value = 0;
+    for c in part {
+        value = 10 * value + digit_value(*c);
     }
     value
 }
@@ -55,31 +42,22 @@ pub(crate) fn put_digits(n: u32, width: usize, out: &mut [u8], at: usize)
     ensures { out.new ≡ put_at out.old at (last_digits width n) }
 {
     let mut rest = n;
-    let mut i = width;
-    while 0 < i {
-        i -= 1;
+    for i in (0..width).rev() {
         out[at + i] = b'0' + (rest % 10) as u8;
         rest = rest / 10;
     }
 }
 
+#[tactic(auto, using(std::proofs::lemmas::Bool::Decides::nat_tests), unfolding(crate::specs::Digits::places_of))]
 pub(crate) fn places_of(n: u32) -> usize
     ensures { result ≡ places_of n }
 {
-    if n < 10 {
-        return 1;
+    match n {
+        0..=9 => 1,
+        10..=99 => 2,
+        100..=999 => 3,
+        1000..=9999 => 4,
+        10000..=99999 => 5,
+        _ => 6,
     }
-    if n < 100 {
-        return 2;
-    }
-    if n < 1000 {
-        return 3;
-    }
-    if n < 10000 {
-        return 4;
-    }
-    if n < 100000 {
-        return 5;
-    }
-    6
 }

@@ -1,135 +1,83 @@
 // Export: holdings made into a list of symbols.
-ghost use Rattle.std.specs.Prelude.{◌≡◌, ◌+◌, ◌≤◌, ◌<◌, ◌/◌, length, take};
-ghost use Rattle.records.specs.Chunks.{chunk_at};
+ghost use Rattle.std.specs.Prelude.{◌≡◌, ◌+◌, ◌≤◌, [], ◌∷◌, true, is_ok, length, take};
 ghost use Rattle.records.specs.Order.{first_of};
 ghost use Rattle.records.specs.Written.{put_at, left_after};
-ghost use Rattle.symbols.specs.Roots.{roots_of};
-ghost use Rattle.symbols.specs.Calls.{list_room, export_answer, export_call, list_of, has_exported};
-ghost use Rattle.symbols.specs.Steps.Numbers.{record_number};
-ghost use Rattle.symbols.specs.Steps.Taken.{line_at, records_answer, RecordsTaken, list_answer};
+ghost use Rattle.symbols.specs.Calls.{list_room, record_checks, line_of_record, lines_for, export_answer, export_call, list_of, has_exported};
+ghost use Rattle.symbols.specs.Steps.Taken.{given, records_answer, RecordsTaken, list_answer};
 
-use crate::lines::{LIST_TABLE, LONGEST_LINE, put_line};
-use crate::names::NAME_BYTES;
-use crate::roots::{ROOT_BYTES, find_terms, root_fault, terms_of};
-use records::{Fault, Kind, MOST_LEGS, PAID, RECORD_BYTES, Refusal};
-
-// How many bytes the list has, or why none was made.
-#[derive(Clone, Copy)]
-pub enum Exported {
-    Bytes(usize),
-    Refused(Refusal),
-}
+use crate::lent::hand_over;
+use crate::lines::{LONGEST_LINE, put_line};
+use crate::refusals::{LIST_TABLE, refused};
+use crate::roots::{Root, find_terms, good_roots, terms_of};
+use records::{Kind, MOST_LEGS, PAID, RECORD_BYTES, Refusal};
 
 // Room for the lines of as many records as holdings may have.
 const LINE_ROOM: usize = LONGEST_LINE * MOST_LEGS;
 
-// The number that a record is refused with, or 0, and the index past its line.
-#[derive(Clone, Copy)]
-pub struct Taken {
-    pub number: u8,
-    pub next: usize,
-}
+type Record = [u8; RECORD_BYTES];
 
-// Judges record i as 4 or 24; where it is good, writes its line from index `at` on.
-fn take_record(roots: &[u8], holdings: &[u8], i: usize, text: &mut [u8], at: usize) -> Taken
-    requires { (i < length holdings.now / 32) × (at + 31 ≤ length text.old) }
-    ensures number_value { result.number ≡ record_number (roots_of roots.now) (chunk_at 32 holdings.now i) }
-    ensures next_value { result.number ≡ 0 → result.next ≡ at + length (line_at roots.now holdings.now i) }
-    ensures text_after { result.number ≡ 0 → text.new ≡ put_at text.old at (line_at roots.now holdings.now i) }
+// Refusal 4 or 24 of record i; else writes its line from index `at` on, and answers the index past it.
+fn take_record(
+    roots: &[Root],
+    part: &Record,
+    i: usize,
+    text: &mut [u8],
+    at: usize,
+) -> Result<usize, Refusal>
+    requires { at + 31 ≤ length text.old }
+    ensures value { result ≡ given (first_of (record_checks roots.now i (part.now ∷ []))) (at + length (line_of_record roots.now part.now)) }
+    ensures text_after { is_ok result ≡ true → text.new ≡ put_at text.old at (line_of_record roots.now part.now) }
 {
-    let from = RECORD_BYTES * i;
-    let to = from + RECORD_BYTES;
-    let leg = records::leg_at(holdings, i);
-    if records::good_record(Kind::Holdings, &holdings[from..to]) & !(leg.paid == PAID) {
-        let place = find_terms(roots, terms_of(leg));
-        if place < roots.len() / ROOT_BYTES {
-            let first = ROOT_BYTES * place;
-            let past = first + NAME_BYTES;
-            let next = put_line(&roots[first..past], leg, text, at);
-            return Taken { number: 0, next };
-        }
-        return Taken {
-            number: 24,
-            next: at,
-        };
+    let leg = records::leg_at(part, 0);
+    let good = records::good_record(Kind::Holdings, part) & !(leg.paid == PAID);
+    if !good {
+        return Err(refused(4, records::table_number(Kind::Holdings), i));
     }
-    Taken {
-        number: 4,
-        next: at,
+    match find_terms(roots, terms_of(leg)) {
+        Some(root) => Ok(put_line(root, leg, text, at)),
+        None => Err(refused(24, records::table_number(Kind::Holdings), i)),
     }
 }
 
 // Takes the records in their order, their lines from byte 0 of `text` on.
-fn take_records(roots: &[u8], holdings: &[u8], text: &mut [u8]) -> Exported
-    requires { (length holdings.now / 32 ≤ 256) × (7936 ≤ length text.old) }
-    ensures value { result ≡ records_answer roots.now holdings.now }
-    ensures records_taken { RecordsTaken roots.now holdings.now result text.old text.new }
+fn take_records(
+    roots: &[Root],
+    records: &[Record],
+    text: &mut [u8; LINE_ROOM],
+) -> Result<usize, Refusal>
+    requires { length records.now ≤ 256 }
+    ensures value { result ≡ records_answer roots.now records.now }
+    ensures records_taken { RecordsTaken roots.now records.now result text.old text.new }
 {
-    let n = holdings.len() / RECORD_BYTES;
-    let mut at: usize = 0;
-    let mut i: usize = 0;
-    while i < n {
-        let taken = take_record(roots, holdings, i, text, at);
-        if taken.number != 0 {
-            return Exported::Refused(Refusal {
-                number: taken.number,
-                table: records::table_number(Kind::Holdings),
-                place: i,
-            });
-        }
-        at = taken.next;
-        i += 1;
+    let mut at = 0;
+    for (i, record) in records.iter().enumerate() {
+        at = take_record(roots, record, i, text, at)?;
     }
-    Exported::Bytes(at)
-}
-
-// Refusal 17; else copies the lines into the lent list.
-fn put_list(text: &[u8], n: usize, list: &mut [u8]) -> Exported
-    requires { n ≤ length text.now }
-    ensures value { result ≡ export_answer (first_of (list_room n (length list.old))) n }
-    ensures list_after { list.new ≡ left_after (has_exported result) (take n text.now) list.old }
-{
-    if list.len() < n {
-        return Exported::Refused(Refusal {
-            number: 17,
-            table: LIST_TABLE,
-            place: n,
-        });
-    }
-    records::copy_to(list, 0, &text[..n]);
-    Exported::Bytes(n)
+    Ok(at)
 }
 
 // The lines stand in a text of their own until every record is judged.
-fn export_records(roots: &[u8], holdings: &[u8], list: &mut [u8]) -> Exported
-    requires { length holdings.now / 32 ≤ 256 }
-    ensures value { result ≡ list_answer roots.now holdings.now list.old }
-    ensures list_after { list.new ≡ left_after (has_exported result) (list_of roots.now holdings.now) list.old }
+fn export_records(roots: &[Root], records: &[Record], list: &mut [u8]) -> Result<usize, Refusal>
+    requires { length records.now ≤ 256 }
+    ensures value { result ≡ list_answer roots.now records.now (length list.old) }
+    ensures list_after { list.new ≡ left_after (has_exported result) (lines_for roots.now records.now) list.old }
 {
     let mut text = [0u8; LINE_ROOM];
-    match take_records(roots, holdings, &mut text) {
-        Exported::Refused(refusal) => Exported::Refused(refusal),
-        Exported::Bytes(n) => put_list(&text, n, list),
-    }
+    let n = take_records(roots, records, &mut text)?;
+    hand_over(&text[..n], list, LIST_TABLE)?;
+    Ok(n)
 }
 
 // Makes holdings into a list of symbols: a line for each record, in their order, from byte 0 of the lent
 // list; what lies past them stays. On a refusal nothing is written.
-pub fn export(roots: &[u8], holdings: &[u8], list: &mut [u8]) -> Exported
+pub fn export(roots: &[u8], holdings: &[u8], list: &mut [u8]) -> Result<usize, Refusal>
     ensures value { result ≡ export_call roots.now holdings.now (length list.old) }
     ensures list_after { list.new ≡ left_after (has_exported result) (list_of roots.now holdings.now) list.old }
 {
-    match root_fault(roots) {
-        Fault::Is(refusal) => Exported::Refused(refusal),
-        Fault::Nothing => {
-            if records::whole_table(Kind::Holdings, holdings.len()) {
-                return export_records(roots, holdings, list);
-            }
-            Exported::Refused(Refusal {
-                number: 1,
-                table: 0,
-                place: 0,
-            })
-        }
+    let roots = good_roots(roots)?;
+    if !records::whole_table(Kind::Holdings, holdings.len()) {
+        return Err(refused(1, 0, 0));
     }
+    let (records, _) = holdings.as_chunks::<RECORD_BYTES>();
+    export_records(roots, records, list)
 }

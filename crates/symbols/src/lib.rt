@@ -5,9 +5,11 @@
 mod digits;
 mod exports;
 mod imports;
+mod lent;
 mod lines;
 mod names;
+mod refusals;
 mod roots;
 
-pub use exports::{Exported, export};
-pub use imports::{Imported, import};
+pub use exports::export;
+pub use imports::import;

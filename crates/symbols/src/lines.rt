@@ -1,23 +1,20 @@
-// Lines of a list: where they end, whether they are well formed, what they say; and a leg written as one.
-ghost use Rattle.std.specs.Prelude.{◌≡◌, ◌+◌, ◌≤◌, length, drop};
+// Lines of a list: whether they are well formed, what they say; and a leg written as one.
+ghost use Rattle.std.specs.Prelude.{◌≡◌, ◌+◌, ◌≤◌, ◌||◌, cond, eqb, length};
 ghost use Rattle.records.specs.Written.{put_at};
-ghost use Rattle.symbols.specs.Lines.{is_right, is_side, right_said, side_said, right_char, side_char, well_formed, line_says, line_in_range, line_leg, symbol_text, line_text};
-ghost use Rattle.symbols.specs.Steps.Numbers.{line_length};
+ghost use Rattle.symbols.specs.Lines.{well_formed, line_says, line_in_range, line_leg, symbol_text, line_text};
+ghost use Rattle.symbols.specs.Roots.{name_of};
 
 use crate::digits::{all_digits, number_of, places_of, put_digits};
 use crate::names::{NAME_BYTES, good_name};
-use crate::roots::Terms;
-use records::{CALL, Contracts, LONG, Leg, MOST_CONTRACTS, PUT, SHORT};
+use crate::roots::{Root, Terms};
+use records::{Contracts, Leg, MOST_CONTRACTS};
 
 // A line has 26 to 31 bytes: 24 before the contracts, 1 to 6 of these, and the newline.
 const LEAST_LINE: usize = 26;
 
 pub(crate) const LONGEST_LINE: usize = 31;
 
-// The number by which a refusal names the list.
-pub(crate) const LIST_TABLE: u8 = 6;
-
-// What a line says besides its root.
+// What a line says besides its root; right and side are numbers, as in the leg's record that is made of it.
 #[derive(Clone, Copy)]
 pub struct Line {
     pub right: u8,
@@ -27,86 +24,59 @@ pub struct Line {
     pub contracts: u32,
 }
 
-// The index past the line that starts at index `at`: past its newline, or the end of the list.
-pub(crate) fn line_end(list: &[u8], at: usize) -> usize
-    requires { at ≤ length list.now }
-    ensures { result ≡ at + line_length (drop at list.now) }
-{
-    let mut i = at;
-    while i < list.len() {
-        if list[i] == b'\n' {
-            return i + 1;
-        }
-        i += 1;
+// Two letters: the one stands for 1, the other for 2.
+#[derive(Clone, Copy)]
+pub struct Letters {
+    pub one: u8,
+    pub two: u8,
+}
+
+// A call (1) or a put (2).
+const RIGHTS: Letters = Letters {
+    one: b'C',
+    two: b'P',
+};
+
+// Long (1) or short (2).
+const SIDES: Letters = Letters {
+    one: b'L',
+    two: b'S',
+};
+
+impl Letters {
+    fn has(self, c: u8) -> bool
+        ensures { result ≡ (eqb c self.one || eqb c self.two) }
+    {
+        (c == self.one) | (c == self.two)
     }
-    i
-}
 
-fn is_right(c: u8) -> bool
-    ensures { result ≡ is_right c }
-{
-    (c == b'C') | (c == b'P')
-}
-
-fn is_side(c: u8) -> bool
-    ensures { result ≡ is_side c }
-{
-    (c == b'L') | (c == b'S')
-}
-
-fn right_said(c: u8) -> u8
-    ensures { result ≡ right_said c }
-{
-    if c == b'C' {
-        return CALL;
+    fn number(self, c: u8) -> u8
+        ensures { result ≡ cond (eqb c self.one) 1 2 }
+    {
+        if c == self.one { 1 } else { 2 }
     }
-    PUT
-}
 
-fn side_said(c: u8) -> u8
-    ensures { result ≡ side_said c }
-{
-    if c == b'L' {
-        return LONG;
+    fn letter(self, number: u8) -> u8
+        ensures { result ≡ cond (eqb number 1) self.one self.two }
+    {
+        if number == 1 { self.one } else { self.two }
     }
-    SHORT
-}
-
-fn right_char(right: u8) -> u8
-    ensures { result ≡ right_char right }
-{
-    if right == CALL {
-        return b'C';
-    }
-    b'P'
-}
-
-fn side_char(side: u8) -> u8
-    ensures { result ≡ side_char side }
-{
-    if side == LONG {
-        return b'L';
-    }
-    b'S'
 }
 
 // Whether a line, with its newline, has the characters of one.
 pub(crate) fn well_formed(line: &[u8]) -> bool
     ensures { result ≡ well_formed line.now }
 {
-    if line.len() < LEAST_LINE {
-        return false;
-    }
-    if LONGEST_LINE < line.len() {
+    if !((LEAST_LINE <= line.len()) & (line.len() <= LONGEST_LINE)) {
         return false;
     }
     let last = line.len() - 1;
     good_name(&line[..NAME_BYTES])
         & all_digits(&line[6..12])
-        & is_right(line[12])
+        & RIGHTS.has(line[12])
         & all_digits(&line[13..21])
         & (line[21] == b' ')
-        & is_side(line[22])
+        & SIDES.has(line[22])
         & (line[23] == b' ')
         & !(line[24] == b'0')
         & all_digits(&line[24..last])
@@ -120,10 +90,10 @@ pub(crate) fn line_says(line: &[u8]) -> Line
 {
     let last = line.len() - 1;
     Line {
-        right: right_said(line[12]),
+        right: RIGHTS.number(line[12]),
         expiry: 20000000 + number_of(&line[6..12]),
         strike: number_of(&line[13..21]),
-        side: side_said(line[22]),
+        side: SIDES.number(line[22]),
         contracts: number_of(&line[24..last]),
     }
 }
@@ -157,24 +127,25 @@ pub(crate) fn line_leg(terms: Terms, line: Line) -> Leg
 }
 
 // Writes the 21 characters of a leg's symbol, from index `at` on.
-fn put_symbol(name: &[u8], leg: Leg, out: &mut [u8], at: usize)
-    requires { (length name.now ≡ 6) × (at + 21 ≤ length out.old) }
-    ensures { out.new ≡ put_at out.old at (symbol_text name.now leg) }
+fn put_symbol(root: &Root, leg: Leg, out: &mut [u8], at: usize)
+    requires { at + 21 ≤ length out.old }
+    ensures { out.new ≡ put_at out.old at (symbol_text (name_of root.now) leg) }
 {
-    records::copy_to(out, at, name);
+    records::copy_to(out, at, &root[..NAME_BYTES]);
     put_digits(leg.expiry % 1000000, 6, out, at + 6);
-    out[at + 12] = right_char(leg.right);
+    out[at + 12] = RIGHTS.letter(leg.right);
     put_digits(leg.strike, 8, out, at + 13);
 }
 
 // Writes a leg as a line, from index `at` on, and answers the index past it.
-pub(crate) fn put_line(name: &[u8], leg: Leg, out: &mut [u8], at: usize) -> usize
-    requires { (length name.now ≡ 6) × (at + 31 ≤ length out.old) }
-    ensures value { result ≡ at + length (line_text name.now leg) }
-    ensures out_after { out.new ≡ put_at out.old at (line_text name.now leg) }
+#[tactic(auto, using(crate::proofs::DigitLaws::places_most))]
+pub(crate) fn put_line(root: &Root, leg: Leg, out: &mut [u8], at: usize) -> usize
+    requires { at + 31 ≤ length out.old }
+    ensures value { result ≡ at + length (line_text (name_of root.now) leg) }
+    ensures out_after { out.new ≡ put_at out.old at (line_text (name_of root.now) leg) }
 {
-    put_symbol(name, leg, out, at);
-    let marks = [b' ', side_char(leg.side), b' '];
+    put_symbol(root, leg, out, at);
+    let marks = [b' ', SIDES.letter(leg.side), b' '];
     records::copy_to(out, at + 21, &marks);
     let contracts = leg.contracts.number();
     let places = places_of(contracts);

@@ -1,5 +1,5 @@
 // The six characters of a root: tested and compared.
-ghost use Rattle.std.specs.Prelude.{◌≡◌, length, drop};
+ghost use Rattle.std.specs.Prelude.{◌≡◌, ◌≤◌, length, take};
 ghost use Rattle.records.specs.Bytes.{le_at};
 ghost use Rattle.records.specs.Lists.{same, all_of};
 ghost use Rattle.symbols.specs.Digits.{is_blank, is_letter};
@@ -16,32 +16,20 @@ fn is_letter(c: u8) -> bool
     (b'A' <= c) & (c <= b'Z')
 }
 
-// Whether all characters from index `from` on are blanks.
-fn all_blank(name: &[u8], from: usize) -> bool
-    ensures { result ≡ all_of is_blank (drop from name.now) }
+fn all_blank(part: &[u8]) -> bool
+    ensures { result ≡ all_of is_blank part.now }
 {
-    let mut i = from;
-    while i < name.len() {
-        if name[i] != b' ' {
-            return false;
-        }
-        i += 1;
-    }
-    true
+    part.iter().all(|c| *c == b' ')
 }
 
 fn is_padded(name: &[u8]) -> bool
     ensures { result ≡ padded name.now }
 {
-    let mut i: usize = 0;
-    while i < name.len() {
-        let c = name[i];
-        if c == b' ' {
-            return all_blank(name, i + 1);
+    for (i, c) in name.iter().enumerate() {
+        if *c == b' ' {
+            return all_blank(&name[i + 1..]);
         }
-        if is_letter(c) | is_digit(c) {
-            i += 1;
-        } else {
+        if !(is_letter(*c) | is_digit(*c)) {
             return false;
         }
     }
@@ -58,21 +46,18 @@ pub(crate) fn good_name(name: &[u8]) -> bool
     is_letter(name[0]) & is_padded(name)
 }
 
-// The six characters of a root as one number.
-fn name_number(name: &[u8]) -> u64
-    requires { length name.now ≡ 6 }
-    ensures { result ≡ le_at name.now 0 6 }
+// The first six characters of a part as one number.
+fn name_number(part: &[u8]) -> u64
+    requires { 6 ≤ length part.now }
+    ensures { result ≡ le_at part.now 0 6 }
 {
-    let low = records::u16_at(name, 0);
-    let middle = records::u16_at(name, 2);
-    let high = records::u16_at(name, 4);
-    low as u64 + 65536 * (middle as u64) + 4294967296 * (high as u64)
+    u64::from_le_bytes([part[0], part[1], part[2], part[3], part[4], part[5], 0, 0])
 }
 
-// Whether two roots are one.
+// Whether two parts begin with one root. Two numbers are compared sooner than six characters.
 pub(crate) fn same_name(a: &[u8], b: &[u8]) -> bool
-    requires { (length a.now ≡ 6) × (length b.now ≡ 6) }
-    ensures { result ≡ same a.now b.now }
+    requires { (6 ≤ length a.now) × (6 ≤ length b.now) }
+    ensures { result ≡ same (take 6 a.now) (take 6 b.now) }
 {
     name_number(a) == name_number(b)
 }

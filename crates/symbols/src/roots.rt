@@ -1,27 +1,31 @@
 // The table of roots: checked, and looked up by root or by terms.
-ghost use Rattle.std.specs.Prelude.{◌≡◌, ◌<◌, ◌/◌, length, take, []};
-ghost use Rattle.records.specs.Chunks.{chunk_at};
+ghost use Rattle.std.specs.Prelude.{◌≡◌, ◌≤◌, length, take, [], MatchResult, option_copied};
+ghost use Rattle.std.specs.List.{find};
+ghost use Rattle.records.specs.Lists.{same};
 ghost use Rattle.records.specs.Order.{first_of};
-ghost use Rattle.symbols.specs.Roots.{roots_of, terms_of, same_terms, good_terms, good_root, fresh, ask_roots, root_checks, place_of_name, place_of_terms, leg_terms};
+ghost use Rattle.symbols.specs.Roots.{name_of, roots_of, terms_of, same_terms, good_terms, good_root, repeats, fresh, ask_roots, root_checks, leg_terms};
+ghost use Rattle.symbols.specs.Steps.Numbers.{RootsJudged};
 
 use crate::names::{NAME_BYTES, good_name, same_name};
-use records::{Fault, Leg, Refusal};
+use crate::refusals::{ROOTS_TABLE, refused};
+use records::{Leg, Refusal};
 
-pub(crate) const ROOT_BYTES: usize = 16;
+const ROOT_BYTES: usize = 16;
 
 const MOST_ROOTS: usize = 256;
 
-// The number by which a refusal names the table of roots.
-const ROOTS_TABLE: u8 = 5;
+// One entry of the table.
+pub(crate) type Root = [u8; ROOT_BYTES];
 
-// What a root stands for.
-#[derive(Clone, Copy)]
+// What a root stands for: numbers, as a leg of any bytes has them. Most terms differ in the underlying, so it stands first:
+// `==` looks at it first.
+#[derive(Clone, Copy, PartialEq)]
 pub struct Terms {
+    pub underlying: u32,
     pub style: u8,
     pub market: u8,
     pub size: u16,
     pub settlement: u8,
-    pub underlying: u32,
 }
 
 pub(crate) fn terms_of(leg: Leg) -> Terms
@@ -36,43 +40,16 @@ pub(crate) fn terms_of(leg: Leg) -> Terms
     }
 }
 
-// The terms of an entry.
-fn entry_terms(entry: &[u8]) -> Terms
-    requires { length entry.now ≡ 16 }
-    ensures { result ≡ terms_of entry.now }
+pub(crate) fn root_terms(root: &Root) -> Terms
+    ensures { result ≡ terms_of root.now }
 {
-    let low = records::u16_at(entry, 12);
-    let high = records::u16_at(entry, 14);
     Terms {
-        style: entry[6],
-        market: entry[7],
-        size: records::u16_at(entry, 8),
-        settlement: entry[10],
-        underlying: low as u32 + 65536 * (high as u32),
+        style: root[6],
+        market: root[7],
+        size: u16::from_le_bytes([root[8], root[9]]),
+        settlement: root[10],
+        underlying: u32::from_le_bytes([root[12], root[13], root[14], root[15]]),
     }
-}
-
-// The terms of entry i of a table.
-pub(crate) fn terms_at(roots: &[u8], i: usize) -> Terms
-    requires { i < length roots.now / 16 }
-    ensures { result ≡ terms_of (chunk_at 16 roots.now i) }
-{
-    let at = ROOT_BYTES * i;
-    let end = at + ROOT_BYTES;
-    entry_terms(&roots[at..end])
-}
-
-// Most terms differ in the underlying, so it is looked at first.
-fn same_terms(a: Terms, b: Terms) -> bool
-    ensures { result ≡ same_terms a b }
-{
-    if a.underlying != b.underlying {
-        return false;
-    }
-    (a.style == b.style)
-        & (a.market == b.market)
-        & (a.size == b.size)
-        & (a.settlement == b.settlement)
 }
 
 fn good_terms(terms: Terms) -> bool
@@ -85,98 +62,59 @@ fn good_terms(terms: Terms) -> bool
         & (1 <= terms.underlying)
 }
 
-fn good_root(entry: &[u8]) -> bool
-    requires { length entry.now ≡ 16 }
-    ensures { result ≡ good_root entry.now }
+fn good_root(root: &Root) -> bool
+    ensures { result ≡ good_root root.now }
 {
-    good_name(&entry[..NAME_BYTES]) & good_terms(entry_terms(entry)) & (entry[11] == 0)
+    good_name(&root[..NAME_BYTES]) & good_terms(root_terms(root)) & (root[11] == 0)
 }
 
-// Whether entry i repeats none before it.
-fn is_fresh(roots: &[u8], i: usize) -> bool
-    requires { i < length roots.now / 16 }
-    ensures { result ≡ fresh (take i (roots_of roots.now)) (chunk_at 16 roots.now i) }
+// Whether two entries have one root, or the same terms.
+fn repeats(a: &Root, b: &Root) -> bool
+    ensures { result ≡ repeats a.now b.now }
 {
-    let at = ROOT_BYTES * i;
-    let end = at + NAME_BYTES;
-    let terms = terms_at(roots, i);
-    let mut j: usize = 0;
-    while j < i {
-        let from = ROOT_BYTES * j;
-        let to = from + NAME_BYTES;
-        if same_name(&roots[at..end], &roots[from..to]) | same_terms(terms, terms_at(roots, j)) {
-            return false;
-        }
-        j += 1;
-    }
-    true
+    same_name(a, b) | (root_terms(a) == root_terms(b))
 }
 
-fn entry_fault(roots: &[u8]) -> Fault
-    ensures { result ≡ first_of (ask_roots [] 0 (roots_of roots.now)) }
+fn is_fresh(before: &[Root], root: &Root) -> bool
+    ensures { result ≡ fresh before.now root.now }
 {
-    let n = roots.len() / ROOT_BYTES;
-    let mut i: usize = 0;
-    while i < n {
-        let at = ROOT_BYTES * i;
-        let end = at + ROOT_BYTES;
-        if good_root(&roots[at..end]) & is_fresh(roots, i) {
-            i += 1;
-        } else {
-            return Fault::Is(Refusal {
-                number: 23,
-                table: ROOTS_TABLE,
-                place: i,
-            });
+    before.iter().all(|other| !repeats(root, other))
+}
+
+fn entry_fault(roots: &[Root]) -> Result<(), Refusal>
+    ensures { result ≡ first_of (ask_roots [] 0 roots.now) }
+{
+    for (i, root) in roots.iter().enumerate() {
+        if !(good_root(root) & is_fresh(&roots[..i], root)) {
+            return Err(refused(23, ROOTS_TABLE, i));
         }
     }
-    Fault::Nothing
+    Ok(())
 }
 
-// Refusal 23: a wrong size, or the first bad root.
-pub(crate) fn root_fault(roots: &[u8]) -> Fault
-    ensures { result ≡ first_of (root_checks roots.now) }
+// Refusal 23: a wrong size, or the first bad root; else the entries.
+pub(crate) fn good_roots(table: &[u8]) -> Result<&[Root], Refusal>
+    ensures { RootsJudged table.now result }
 {
-    let n = roots.len() / ROOT_BYTES;
-    if (roots.len() % ROOT_BYTES == 0) & ((1 <= n) & (n <= MOST_ROOTS)) {
-        return entry_fault(roots);
+    let (roots, rest) = table.as_chunks::<ROOT_BYTES>();
+    if !((rest.len() == 0) & ((1 <= roots.len()) & (roots.len() <= MOST_ROOTS))) {
+        return Err(refused(23, ROOTS_TABLE, 0));
     }
-    Fault::Is(Refusal {
-        number: 23,
-        table: ROOTS_TABLE,
-        place: 0,
-    })
+    entry_fault(roots)?;
+    Ok(roots)
 }
 
-// The place of the entry of a root; where there is none, how many entries there are.
-pub(crate) fn find_name(roots: &[u8], name: &[u8]) -> usize
-    requires { length name.now ≡ 6 }
-    ensures { result ≡ place_of_name name.now (roots_of roots.now) }
+// The entry of the root that a line begins with.
+pub(crate) fn find_name<'a>(roots: &'a [Root], line: &[u8]) -> Option<&'a Root>
+    requires { 6 ≤ length line.now }
+    ensures { option_copied result ≡ find (λ e. same (name_of e) (take 6 line.now)) roots.now }
 {
-    let n = roots.len() / ROOT_BYTES;
-    let mut i: usize = 0;
-    while i < n {
-        let at = ROOT_BYTES * i;
-        let end = at + NAME_BYTES;
-        if same_name(&roots[at..end], name) {
-            return i;
-        }
-        i += 1;
-    }
-    i
+    roots.iter().find(|root| same_name(*root, line))
 }
 
-// The place of the entry of five terms; where there is none, how many entries there are.
-pub(crate) fn find_terms(roots: &[u8], terms: Terms) -> usize
-    ensures { result ≡ place_of_terms terms (roots_of roots.now) }
+// The entry of five terms.
+pub(crate) fn find_terms(roots: &[Root], terms: Terms) -> Option<&Root>
+    ensures { option_copied result ≡ find (λ e. same_terms (terms_of e) terms) roots.now }
 {
-    let n = roots.len() / ROOT_BYTES;
-    let mut i: usize = 0;
-    while i < n {
-        if same_terms(terms_at(roots, i), terms) {
-            return i;
-        }
-        i += 1;
-    }
-    i
+    roots.iter().find(|root| root_terms(*root) == terms)
 }

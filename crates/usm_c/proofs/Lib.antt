@@ -1,3 +1,3 @@
 pub mod Amounts
-pub mod PositionLaws
+pub mod NumberLaws
 pub mod Unique

@@ -13,25 +13,24 @@ ghost use Rattle.spreads.specs.Cash.{cash_call};
 ghost use Rattle.sheets.specs.Verdicts.{verdict_of};
 ghost use Rattle.verdicts.specs.FileVerdicts.{file_verdict};
 ghost use Rattle.verdicts.specs.TableText.{table_text};
-ghost use Rattle.usm_c.specs.Answers.{first_word, due_words, verdict_words, table_words, required_words};
+ghost use Rattle.usm_c.specs.Answers.{first_word, due_words, verdict_words, table_words};
 ghost use Rattle.usm_c.specs.Outcomes.{margins_words, margins_left, worksheet_words, strikes_left, nets_left};
 ghost use Rattle.usm_c.specs.Outcomes.{read_words, table_left, origin_left, write_words, out_left, move_words, moved_left};
 ghost use Rattle.usm_c.specs.Outcomes.{mark_words, placement_left, play_words, result_left, indices_left, numbers_left};
 ghost use Rattle.usm_c.specs.Outcomes.{import_words, import_left, export_words, export_left, salvage_words, sound_left, dropped_left, reasons_left};
 ghost use Rattle.usm_c.specs.Outcomes.{position, single_as, pair_as, file_line};
 
+mod kinds;
 mod origins;
 mod positions;
 mod words;
 
 use binaries::Position;
+use kinds::check_as;
 use origins::{put_origin, write_as};
 use positions::{pair_as, single_as};
 use verdicts::{LINE_BYTES, TABLE_BYTES};
-use words::{
-    due_words, exported_words, imported_words, listed_words, marked_words, played_words,
-    reading_words, required_words, salvaged_words, table_words, tell, verdict_words, writing_words,
-};
+use words::tell;
 
 // Refusals 1 and 4 of one table, by its number; or how many records it has.
 #[unsafe(no_mangle)]
@@ -39,7 +38,7 @@ pub extern "C" fn usm_check_table(kind: u64, table: &[u8], answer: &mut [u64; 4]
     ensures value { result ≡ first_word answer.new }
     ensures answer_after { answer.new ≡ table_words kind table.now }
 {
-    tell(table_words(kind, table), answer)
+    tell(check_as(kind, table), answer)
 }
 
 // The margin of group g of a placement.
@@ -48,7 +47,7 @@ pub extern "C" fn usm_margin(placement: &[u8], g: u64, answer: &mut [u64; 4]) ->
     ensures value { result ≡ first_word answer.new }
     ensures answer_after { answer.new ≡ due_words (margin_call placement.now g) }
 {
-    tell(due_words(spreads::margin(placement, g as usize)), answer)
+    tell(spreads::margin(placement, g as usize), answer)
 }
 
 // The cash required for group g of a placement in a cash account.
@@ -57,7 +56,7 @@ pub extern "C" fn usm_cash(placement: &[u8], g: u64, answer: &mut [u64; 4]) -> u
     ensures value { result ≡ first_word answer.new }
     ensures answer_after { answer.new ≡ due_words (cash_call placement.now g) }
 {
-    tell(due_words(spreads::cash(placement, g as usize)), answer)
+    tell(spreads::cash(placement, g as usize), answer)
 }
 
 // The margins of groups 1 to n.
@@ -72,10 +71,7 @@ pub extern "C" fn usm_margins(
     ensures answer_after { answer.new ≡ margins_words placement.now n out.old }
     ensures out_after { out.new ≡ margins_left placement.now n out.old }
 {
-    tell(
-        listed_words(spreads::margins(placement, n as usize, out)),
-        answer,
-    )
+    tell(spreads::margins(placement, n as usize, out), answer)
 }
 
 // The distinct strikes of group g, and the net at each.
@@ -93,7 +89,7 @@ pub extern "C" fn usm_worksheet(
     ensures nets_after { nets.new ≡ nets_left placement.now g strikes.old nets.old }
 {
     tell(
-        listed_words(spreads::worksheet(placement, g as usize, strikes, nets)),
+        spreads::worksheet(placement, g as usize, strikes, nets),
         answer,
     )
 }
@@ -109,10 +105,7 @@ pub extern "C" fn usm_check_sheet(
     ensures value { result ≡ first_word answer.new }
     ensures answer_after { answer.new ≡ verdict_words (verdict_of holdings.now placement.now claims.now) }
 {
-    tell(
-        verdict_words(sheets::check_sheet(holdings, placement, claims)),
-        answer,
-    )
+    tell(sheets::check_sheet(holdings, placement, claims), answer)
 }
 
 // Sets the paid mark on every unplaced long of a placement, in place: what an old sheet goes through.
@@ -122,7 +115,7 @@ pub extern "C" fn usm_mark_paid(placement: &mut [u8], answer: &mut [u64; 4]) -> 
     ensures answer_after { answer.new ≡ mark_words placement.old }
     ensures placement_after { placement.new ≡ placement_left placement.old }
 {
-    tell(marked_words(sheets::mark_paid(placement)), answer)
+    tell(sheets::mark_paid(placement), answer)
 }
 
 // The verdict on a sheet file.
@@ -131,7 +124,7 @@ pub extern "C" fn usm_check_file(file: &[u8], answer: &mut [u64; 4]) -> u64
     ensures value { result ≡ first_word answer.new }
     ensures answer_after { answer.new ≡ verdict_words (file_verdict file.now) }
 {
-    tell(verdict_words(verdicts::check_file(file)), answer)
+    tell(verdicts::check_file(file), answer)
 }
 
 // The records of a sheet file, into three lent tables, and its form and account.
@@ -153,7 +146,7 @@ pub extern "C" fn usm_read_file(
 {
     let reading = blocks::read_file(file, holdings, placement, claims);
     put_origin(reading, origin);
-    tell(reading_words(reading), answer)
+    tell(reading, answer)
 }
 
 // The file of three tables, in a form and of an account, into a lent buffer.
@@ -172,7 +165,7 @@ pub extern "C" fn usm_write_file(
     ensures out_after { out.new ≡ out_left form account holdings.now placement.now claims.now out.old }
 {
     tell(
-        writing_words(write_as(holdings, placement, claims, form, account, out)),
+        write_as(holdings, placement, claims, form, account, out),
         answer,
     )
 }
@@ -189,7 +182,7 @@ pub extern "C" fn usm_move_to_new(
     ensures answer_after { answer.new ≡ move_words Old (in_new account) file.now out.old }
     ensures out_after { out.new ≡ moved_left Old (in_new account) file.now out.old }
 {
-    tell(writing_words(blocks::to_new(file, account, out)), answer)
+    tell(blocks::to_new(file, account, out), answer)
 }
 
 // A file of the new form, in the old one, into a lent buffer.
@@ -199,7 +192,7 @@ pub extern "C" fn usm_move_to_old(file: &[u8], out: &mut [u8], answer: &mut [u64
     ensures answer_after { answer.new ≡ move_words New in_old file.now out.old }
     ensures out_after { out.new ≡ moved_left New in_old file.now out.old }
 {
-    tell(writing_words(blocks::to_old(file, out)), answer)
+    tell(blocks::to_old(file, out), answer)
 }
 
 // The day's fills played over holdings: the table that then stands, and which fills were refused.
@@ -218,10 +211,7 @@ pub extern "C" fn usm_play_fills(
     ensures indices_after { indices.new ≡ indices_left holdings.now fills.now res.old indices.old numbers.old }
     ensures numbers_after { numbers.new ≡ numbers_left holdings.now fills.now res.old indices.old numbers.old }
 {
-    tell(
-        played_words(fills::play(holdings, fills, res, indices, numbers)),
-        answer,
-    )
+    tell(fills::play(holdings, fills, res, indices, numbers), answer)
 }
 
 // A member's list of option symbols, by a table of roots, into a lent table of holdings.
@@ -236,10 +226,7 @@ pub extern "C" fn usm_import(
     ensures answer_after { answer.new ≡ import_words roots.now list.now holdings.old }
     ensures holdings_after { holdings.new ≡ import_left roots.now list.now holdings.old }
 {
-    tell(
-        imported_words(symbols::import(roots, list, holdings)),
-        answer,
-    )
+    tell(symbols::import(roots, list, holdings), answer)
 }
 
 // Holdings, by a table of roots, as a list of option symbols in a lent buffer.
@@ -254,10 +241,7 @@ pub extern "C" fn usm_export(
     ensures answer_after { answer.new ≡ export_words roots.now holdings.now list.old }
     ensures list_after { list.new ≡ export_left roots.now holdings.now list.old }
 {
-    tell(
-        exported_words(symbols::export(roots, holdings, list)),
-        answer,
-    )
+    tell(symbols::export(roots, holdings, list), answer)
 }
 
 // A damaged file salvaged: the sound file, and which blocks were dropped.
@@ -275,10 +259,7 @@ pub extern "C" fn usm_salvage(
     ensures indices_after { indices.new ≡ dropped_left bytes.now out.old indices.old numbers.old }
     ensures numbers_after { numbers.new ≡ reasons_left bytes.now out.old indices.old numbers.old }
 {
-    tell(
-        salvaged_words(salvage::salvage(bytes, out, indices, numbers)),
-        answer,
-    )
+    tell(salvage::salvage(bytes, out, indices, numbers), answer)
 }
 
 // The margin of a position in a credit event binary option, side 1 long or 2 short.
@@ -292,10 +273,10 @@ pub extern "C" fn usm_binary_margin(
     answer: &mut [u64; 4],
 ) -> u64
     ensures value { result ≡ first_word answer.new }
-    ensures answer_after { answer.new ≡ required_words (single_as side spread valuation expiry contracts) }
+    ensures answer_after { answer.new ≡ due_words (single_as side spread valuation expiry contracts) }
 {
     tell(
-        required_words(single_as(side, spread, valuation, expiry, contracts)),
+        single_as(side, spread, valuation, expiry, contracts),
         answer,
     )
 }
@@ -316,7 +297,7 @@ pub extern "C" fn usm_binary_pair(
     answer: &mut [u64; 4],
 ) -> u64
     ensures value { result ≡ first_word answer.new }
-    ensures answer_after { answer.new ≡ required_words (pair_as valuation
+    ensures answer_after { answer.new ≡ due_words (pair_as valuation
         (position long_reference long_spread long_expiry long_contracts) long_paid
         (position short_reference short_spread short_expiry short_contracts)) }
 {
@@ -332,10 +313,7 @@ pub extern "C" fn usm_binary_pair(
         expiry: short_expiry,
         contracts: short_contracts,
     };
-    tell(
-        required_words(pair_as(valuation, long, long_paid, short)),
-        answer,
-    )
+    tell(pair_as(valuation, long, long_paid, short), answer)
 }
 
 // The line that is printed for a sheet file; the answer is its length.

@@ -1,31 +1,31 @@
 // Positions in credit event binary options as numbers: side 1 long or 2 short, paid in full 1 or not 0; any other number
 // is a field out of range.
-ghost use Rattle.std.specs.Prelude.{◌≡◌, cond, eqb};
-ghost use Rattle.records.specs.Order.{refuse};
-ghost use Rattle.binaries.specs.declared.percentages.Side.TheVariants.{Long, Short};
-ghost use Rattle.binaries.specs.declared.calls.Required.TheVariants.{Refused as Refused-required};
-ghost use Rattle.usm_c.specs.Outcomes.{single_as, pair_as};
+ghost use Rattle.std.specs.Prelude.{◌≡◌};
+ghost use Rattle.usm_c.specs.Outcomes.{side_of, paid_of, single_as, pair_as};
 
-use binaries::{LongPosition, Position, Required, Side};
+use crate::words::refusal_of;
+use binaries::{LongPosition, Position, Side};
 use records::Refusal;
 
-fn no_position() -> Required
-    ensures { result ≡ Refused-required (refuse 4 0 0) }
+// `TryFrom` cannot be written for a type of another crate.
+fn side_of(number: u64) -> Option<Side>
+    ensures { result ≡ side_of number }
 {
-    Required::Refused(Refusal {
-        number: 4,
-        table: 0,
-        place: 0,
-    })
+    match number {
+        1 => Some(Side::Long),
+        2 => Some(Side::Short),
+        _ => None,
+    }
 }
 
-fn side_of(side: u64) -> Side
-    ensures { result ≡ cond (eqb side 1) Long Short }
+fn paid_of(number: u64) -> Option<bool>
+    ensures { result ≡ paid_of number }
 {
-    if side == 1 {
-        return Side::Long;
+    match number {
+        0 => Some(false),
+        1 => Some(true),
+        _ => None,
     }
-    Side::Short
 }
 
 pub(crate) fn single_as(
@@ -34,28 +34,30 @@ pub(crate) fn single_as(
     valuation: u64,
     expiry: u64,
     contracts: u64,
-) -> Required
+) -> Result<i64, Refusal>
     ensures { result ≡ single_as side spread valuation expiry contracts }
 {
-    if side < 1 {
-        return no_position();
-    }
-    if 2 < side {
-        return no_position();
-    }
-    binaries::binary_margin(side_of(side), spread, valuation, expiry, contracts)
+    let Some(side) = side_of(side) else {
+        return Err(refusal_of(4));
+    };
+    binaries::binary_margin(side, spread, valuation, expiry, contracts)
 }
 
 // A field of the long is refused before anything else.
-pub(crate) fn pair_as(valuation: u64, long: Position, paid: u64, short: Position) -> Required
+pub(crate) fn pair_as(
+    valuation: u64,
+    long: Position,
+    paid: u64,
+    short: Position,
+) -> Result<i64, Refusal>
     ensures { result ≡ pair_as valuation long paid short }
 {
-    if 1 < paid {
-        return no_position();
-    }
+    let Some(paid) = paid_of(paid) else {
+        return Err(refusal_of(4));
+    };
     let bought = LongPosition {
         position: long,
-        paid: paid == 1,
+        paid,
     };
     binaries::pair_margin(valuation, bought, short)
 }

@@ -1,25 +1,98 @@
 // The four words of each kind of answer, and how they are told.
-ghost use Rattle.std.specs.Prelude.{◌≡◌};
-ghost use Rattle.usm_c.specs.Answers.{first_word, done_words, refused_words, counted_words, due_words, listed_words, verdict_words};
-ghost use Rattle.usm_c.specs.Answers.{reading_words, writing_words, marked_words, played_words, imported_words, exported_words};
-ghost use Rattle.usm_c.specs.Answers.{salvaged_words, required_words, table_words, DueMills, VerdictMills, RequiredMills};
+ghost use Rattle.std.specs.Prelude.{◌≡◌, List, ℕ};
+ghost use Rattle.records.specs.Order.{refuse};
+ghost use Rattle.usm_c.specs.Answers.{first_word, done_words, refused_words, told_words};
+ghost use Rattle.usm_c.specs.Answers.{count_words, mills_words, accepted_words, found_words, tally_words, saved_words};
 
-use binaries::Required;
-use blocks::{Reading, Writing};
-use fills::Played;
-use records::{Counted, Kind, Refusal};
-use salvage::Salvaged;
-use sheets::{Marked, Verdict};
-use spreads::{Due, Listed};
-use symbols::{Exported, Imported};
+use blocks::Reading;
+use fills::Tally;
+use records::Refusal;
+use salvage::Saved;
+use sheets::Accepted;
+
+// What a call answers where nothing is refused, as the words of its answer.
+pub(crate) trait Words {
+    ghost words_of: { Self → List ℕ };
+
+    fn words(self) -> [u64; 4]
+        ensures { result ≡ words_of self };
+}
+
+// How many records, entries, marks or bytes.
+impl Words for usize {
+    ghost words_of = { count_words };
+
+    fn words(self) -> [u64; 4] {
+        done(self as u64, 0, 0)
+    }
+}
+
+// The margin, or the cash required, in mills. None is below zero, by specs/Demands.antt, so its size is the amount itself.
+impl Words for i64 {
+    ghost words_of = { mills_words };
+
+    fn words(self) -> [u64; 4] {
+        done(self.unsigned_abs(), 0, 0)
+    }
+}
+
+impl Words for Accepted {
+    ghost words_of = { accepted_words };
+
+    fn words(self) -> [u64; 4] {
+        done(
+            self.groups as u64,
+            self.total.unsigned_abs(),
+            self.values as u64,
+        )
+    }
+}
+
+impl Words for Reading {
+    ghost words_of = { found_words };
+
+    fn words(self) -> [u64; 4] {
+        done(
+            self.counts.holdings as u64,
+            self.counts.placement as u64,
+            self.counts.claims as u64,
+        )
+    }
+}
+
+impl Words for Tally {
+    ghost words_of = { tally_words };
+
+    fn words(self) -> [u64; 4] {
+        done(self.rows as u64, self.refused as u64, 0)
+    }
+}
+
+impl Words for Saved {
+    ghost words_of = { saved_words };
+
+    fn words(self) -> [u64; 4] {
+        done(self.bytes as u64, self.entries as u64, 0)
+    }
+}
 
 // Writes the words of an answer, and hands back the first: 0, or the refusal's number.
-pub(crate) fn tell(words: [u64; 4], answer: &mut [u64; 4]) -> u64
+pub(crate) fn tell<T: Words>(answered: Result<T, Refusal>, answer: &mut [u64; 4]) -> u64
     ensures value { result ≡ first_word answer.new }
-    ensures answer_after { answer.new ≡ words }
+    ensures answer_after { answer.new ≡ told_words T.words_of answered }
 {
+    let words = told(answered);
     *answer = words;
     words[0]
+}
+
+fn told<T: Words>(answered: Result<T, Refusal>) -> [u64; 4]
+    ensures { result ≡ told_words T.words_of answered }
+{
+    match answered {
+        Ok(found) => found.words(),
+        Err(refusal) => refused(refusal),
+    }
 }
 
 // Success, and what it says.
@@ -35,135 +108,13 @@ fn refused(r: Refusal) -> [u64; 4]
     [r.number as u64, r.table as u64, r.place as u64, 0]
 }
 
-fn counted_words(counted: Counted) -> [u64; 4]
-    ensures { result ≡ counted_words counted }
+// A number that stands for nothing is refused for no table and no place.
+pub(crate) fn refusal_of(number: u8) -> Refusal
+    ensures { result ≡ refuse number 0 0 }
 {
-    match counted {
-        Counted::Records(n) => done(n as u64, 0, 0),
-        Counted::Refused(refusal) => refused(refusal),
-    }
-}
-
-pub(crate) fn due_words(due: Due) -> [u64; 4]
-    requires { DueMills due }
-    ensures { result ≡ due_words due }
-{
-    match due {
-        Due::Mills(mills) => done(mills as u64, 0, 0),
-        Due::Refused(refusal) => refused(refusal),
-    }
-}
-
-pub(crate) fn required_words(required: Required) -> [u64; 4]
-    requires { RequiredMills required }
-    ensures { result ≡ required_words required }
-{
-    match required {
-        Required::Mills(mills) => done(mills as u64, 0, 0),
-        Required::Refused(refusal) => refused(refusal),
-    }
-}
-
-pub(crate) fn listed_words(listed: Listed) -> [u64; 4]
-    ensures { result ≡ listed_words listed }
-{
-    match listed {
-        Listed::Entries(n) => done(n as u64, 0, 0),
-        Listed::Refused(refusal) => refused(refusal),
-    }
-}
-
-pub(crate) fn verdict_words(verdict: Verdict) -> [u64; 4]
-    requires { VerdictMills verdict }
-    ensures { result ≡ verdict_words verdict }
-{
-    match verdict {
-        Verdict::Accepted(groups, total, values) => {
-            done(groups as u64, total as u64, values as u64)
-        }
-        Verdict::Refused(refusal) => refused(refusal),
-    }
-}
-
-pub(crate) fn reading_words(reading: Reading) -> [u64; 4]
-    ensures { result ≡ reading_words reading }
-{
-    match reading {
-        Reading::Read(counts, _) => done(
-            counts.holdings as u64,
-            counts.placement as u64,
-            counts.claims as u64,
-        ),
-        Reading::Refused(refusal) => refused(refusal),
-    }
-}
-
-pub(crate) fn writing_words(writing: Writing) -> [u64; 4]
-    ensures { result ≡ writing_words writing }
-{
-    match writing {
-        Writing::Wrote(n) => done(n as u64, 0, 0),
-        Writing::Refused(refusal) => refused(refusal),
-    }
-}
-
-pub(crate) fn marked_words(marked: Marked) -> [u64; 4]
-    ensures { result ≡ marked_words marked }
-{
-    match marked {
-        Marked::Marks(n) => done(n as u64, 0, 0),
-        Marked::Refused(refusal) => refused(refusal),
-    }
-}
-
-pub(crate) fn played_words(played: Played) -> [u64; 4]
-    ensures { result ≡ played_words played }
-{
-    match played {
-        Played::Done(records, refusals) => done(records as u64, refusals as u64, 0),
-        Played::Refused(refusal) => refused(refusal),
-    }
-}
-
-pub(crate) fn imported_words(imported: Imported) -> [u64; 4]
-    ensures { result ≡ imported_words imported }
-{
-    match imported {
-        Imported::Records(n) => done(n as u64, 0, 0),
-        Imported::Refused(refusal) => refused(refusal),
-    }
-}
-
-pub(crate) fn exported_words(exported: Exported) -> [u64; 4]
-    ensures { result ≡ exported_words exported }
-{
-    match exported {
-        Exported::Bytes(n) => done(n as u64, 0, 0),
-        Exported::Refused(refusal) => refused(refusal),
-    }
-}
-
-pub(crate) fn salvaged_words(salvaged: Salvaged) -> [u64; 4]
-    ensures { result ≡ salvaged_words salvaged }
-{
-    match salvaged {
-        Salvaged::Saved(bytes, entries) => done(bytes as u64, entries as u64, 0),
-        Salvaged::Refused(refusal) => refused(refusal),
-    }
-}
-
-// Of the table with this number.
-pub(crate) fn table_words(kind: u64, table: &[u8]) -> [u64; 4]
-    ensures { result ≡ table_words kind table.now }
-{
-    match kind {
-        1 => counted_words(records::check_table(Kind::Holdings, table)),
-        2 => counted_words(records::check_table(Kind::Placement, table)),
-        3 => counted_words(records::check_table(Kind::Claims, table)),
-        _ => refused(Refusal {
-            number: 1,
-            table: 0,
-            place: 0,
-        }),
+    Refusal {
+        number,
+        table: 0,
+        place: 0,
     }
 }

@@ -5,7 +5,8 @@
 use blocks::INPUT_BYTES;
 use verdicts::LINE_BYTES;
 
-// The standard streams, by their numbers.
+// The standard streams, by their numbers. std's streams would not do the same: their `write_all` tries again what a signal
+// interrupts, `read_exact` does not say how much came before the end, and `read_to_end` needs a heap.
 const STDIN: i32 = 0;
 
 const STDOUT: i32 = 1;

@@ -129,3 +129,9 @@ module _ (xs : List ℕ) (g : ℕ) where
       (pass_both (table_checks Placement (group_table xs g)) (group_rule g (legs_of (group_table xs g)))
       (table_whole t.0, table_fields t.1)
       (table_rule (pass_right (table_checks Placement xs) (group_rule g (legs_of xs)) p)))
+
+  pub placement_short : GroupPasses xs g → length xs ≤ 8192
+  unfolding group_checks table_checks
+  placement_short a =
+      let t = pass_left (table_checks Placement xs) (group_rule g (legs_of xs)) (clear (group_checks xs g) a) in
+      omega (arith, whole Placement (length xs) t.0)

@@ -1,4 +1,5 @@
 -- What a sheet that keeps the rules says of each of its groups: its calls answer, and its claim is the margin.
+use Rattle.std.specs.Prelude.{Ok}
 use mathlib.Core.Path.{◌≡◌, sym, ap, ◌∙◌}
 use mathlib.Core.List.{List}
 use Prim.Native.Nat.{ℕ, ◌+◌, ◌/◌, ◌≤◌, ◌<◌}
@@ -9,7 +10,6 @@ use Rattle.records.specs.Claims.{claim_of}
 use Rattle.records.specs.Order.{first_of}
 use Rattle.records.specs.Tables.{table_checks, legs_of}
 use Rattle.records.specs.declared.claims.Claim.{Claim}
-use Rattle.records.specs.declared.refusals.Fault.TheVariants.{Nothing}
 use Rattle.records.specs.declared.tables.Kind.TheVariants.{Placement, Claims}
 use Rattle.records.proofs.OrderLaws.{first_then}
 use Rattle.records.proofs.TableLaws.{whole, length_claims}
@@ -25,7 +25,7 @@ use Rattle.verdicts.proofs.ShownLaws.{shown_more}
 use Rattle.verdicts.proofs.TableFits.{shown_fits}
 
 module _ (h p c : List ℕ) (kept : Kept h p c) where
-  pub kept_checked : first_of (table_checks Placement p) ≡ Nothing
+  pub kept_checked : first_of (table_checks Placement p) ≡ Ok tt
   kept_checked = sound_checked p kept.placement
 
   pub kept_groups : length c / 32 ≤ 32

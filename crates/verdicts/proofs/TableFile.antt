@@ -1,4 +1,5 @@
 -- The text of a file's table, by the verdict on it and by its tables as they were copied.
+use Rattle.std.specs.Prelude.{Ok, Err}
 use mathlib.Core.Path.{◌≡◌}
 use mathlib.Core.List.{List}
 use Prim.Native.Nat.{ℕ, ◌/◌, ◌≤◌}
@@ -12,19 +13,19 @@ use Rattle.records.proofs.TableLaws.{length_claims}
 use Rattle.blocks.specs.File.{table_of, tables_in}
 use Rattle.blocks.specs.Reader.{copied}
 use Rattle.blocks.proofs.Laws.{copied_room}
-use Rattle.sheets.specs.declared.sheet.Verdict.TheVariants.{Accepted, Refused}
 use Rattle.verdicts.specs.FileVerdicts.{file_verdict}
 use Rattle.verdicts.specs.Printed.{refuse_line}
 use Rattle.verdicts.specs.Steps.Groups.{ShownBy}
 use Rattle.verdicts.specs.TableText.{shown_in, shown_text, table_text}
 use Rattle.verdicts.proofs.Demands.{file_iff}
+use Rattle.sheets.specs.Verdicts.{accepted}
 
 module _ (file : List ℕ) where
-  pub refused_text : (r : Refusal) → file_verdict file ≡ Refused r → refuse_line r ≡ table_text file
+  pub refused_text : (r : Refusal) → file_verdict file ≡ Err r → refuse_line r ≡ table_text file
   unfolding table_text
   refused_text r e = rw e
 
-  module _ (n : ℕ) (total : ℤ) (work : ℕ) (e : file_verdict file ≡ Accepted n total work) where
+  module _ (n : ℕ) (total : ℤ) (work : ℕ) (e : file_verdict file ≡ Ok (accepted n total work)) where
     pub accepted_text : shown_text (shown_in (length (tables_in file).claims / 32) (legs_of (tables_in file).placement)) ≡ table_text file
     unfolding table_text
     accepted_text = rw (e, ((file_iff file n total work).0 e).2, length_claims (tables_in file).claims)

@@ -1,4 +1,5 @@
 -- Every table fits: 32 lines of groups of at most 29 bytes each, and 256 lines of strikes of at most 30, are 8,608 bytes.
+use Rattle.std.specs.Prelude.{Ok}
 use mathlib.Core.Path.{◌≡◌, ap}
 use mathlib.Core.List.{List, [], ◌∷◌}
 use Prim.Native.Nat.{ℕ, zero, suc, ◌+◌, ◌*◌, ◌≤◌, ◌<◌}
@@ -9,7 +10,6 @@ use Rattle.records.specs.Claims.{most_mills}
 use Rattle.records.specs.Lists.{All}
 use Rattle.records.specs.Order.{first_of}
 use Rattle.records.specs.Tables.{table_checks, legs_of}
-use Rattle.records.specs.declared.refusals.Fault.TheVariants.{Nothing}
 use Rattle.records.specs.declared.tables.Kind.TheVariants.{Placement}
 use Rattle.records.proofs.ListLaws.{map_all}
 use Rattle.spreads.specs.Prices.{net}
@@ -58,7 +58,7 @@ strike_lines_short (s ∷ ss) (n ∷ ns) a b =
 
 -- ---- the groups of a placement
 
-module _ (xs : List ℕ) (p : first_of (table_checks Placement xs) ≡ Nothing) where
+module _ (xs : List ℕ) (p : first_of (table_checks Placement xs) ≡ Ok tt) where
   net_within : (g k : ℕ) → k < nine_digits → nat_abs (net (group_in xs g) k) ≤ most_mills
   unfolding net
   net_within g k h =

@@ -1,16 +1,16 @@
 -- Document 02, [1]: 'prints for each group a line `GROUP g margin`, then a line `strike net` for each distinct strike, ascending,
 -- in mills, single spaces, a newline after each. A refused sheet prints only its REFUSE line.'
-use Rattle.std.specs.Prelude.{ℕ, zero, suc, List, [], ◌∷◌, ◌++◌, ℤ}
+use Rattle.std.specs.Prelude.{ℕ, zero, suc, List, [], ◌∷◌, ◌++◌, ℤ, Result, Ok, Err}
 use Rattle.records.specs.Tables.{legs_of}
 use Rattle.records.specs.declared.legs.Leg.{Leg}
 use Rattle.blocks.specs.File.{tables_in}
 use Rattle.spreads.specs.Spreads.{group_of}
 use Rattle.spreads.specs.Strikes.{strikes_of, nets_of}
 use Rattle.spreads.specs.Boxes.{margin_of}
-use Rattle.sheets.specs.declared.sheet.Verdict.{Verdict}
-use Rattle.sheets.specs.declared.sheet.Verdict.TheVariants.{Accepted, Refused}
 use Rattle.verdicts.specs.FileVerdicts.{file_verdict}
 use Rattle.verdicts.specs.Printed.{decimal_of, amount_of, line, refuse_line}
+use Rattle.records.specs.declared.refusals.Refusal.{Refusal}
+use Rattle.sheets.specs.declared.sheet.Accepted.{Accepted}
 
 -- ---- what is shown
 
@@ -57,9 +57,9 @@ shown_text [] = []
 shown_text (s ∷ rest) = group_text s ++ shown_text rest
 
 -- the table of an accepted sheet, or 'only its REFUSE line'
-abbrev pub text_of : Verdict → List Leg → List ℕ
-text_of (Accepted n total work) placement = shown_text (shown_in n placement)
-text_of (Refused r) placement = refuse_line r
+abbrev pub text_of : Result Accepted Refusal → List Leg → List ℕ
+text_of (Ok a) placement = shown_text (shown_in a.groups placement)
+text_of (Err r) placement = refuse_line r
 
 unfoldable pub table_text : List ℕ → List ℕ
 table_text file = text_of (file_verdict file) (legs_of (tables_in file).placement)

@@ -12,20 +12,16 @@ pub(crate) fn put_byte(byte: u8, out: &mut [u8], at: usize) -> usize
     at + 1
 }
 
-// The bytes of `text` one by one.
 pub(crate) fn put_text(text: &[u8], out: &mut [u8], at: usize) -> usize
     requires { at + length text.now ≤ length out.old }
     ensures { Piece out.old at text.now result out.new }
 {
-    let mut i: usize = 0;
-    while i < text.len() {
-        out[at + i] = text[i];
-        i += 1;
-    }
-    at + i
+    let end = at + text.len();
+    out[at..end].copy_from_slice(text);
+    end
 }
 
-// The digits of a tenth come first, then the last digit, where they end.
+// The digits of a tenth come first, then the last digit, where they end. A loop would need the number of digits first.
 fn put_decimal(n: u64, out: &mut [u8], at: usize) -> usize
     requires { at + length (decimal_of n) ≤ length out.old }
     ensures { Piece out.old at (decimal_of n) result out.new }
@@ -41,16 +37,10 @@ fn put_decimal(n: u64, out: &mut [u8], at: usize) -> usize
 pub fn magnitude(mills: i64) -> u64
     ensures { result ≡ nat_abs mills }
 {
-    if mills < 0 {
-        // The lowest amount has no opposite in 64 bits: one is added before the sign is turned, and after it.
-        let less = 0 - (mills + 1);
-        less as u64 + 1
-    } else {
-        mills as u64
-    }
+    mills.unsigned_abs()
 }
 
-// A signed amount: a negative one is a '-' and its magnitude.
+// A signed amount: a negative one is a '-' and its magnitude. What it has in common with a count is `put_decimal`.
 pub(crate) fn put_amount(mills: i64, out: &mut [u8], at: usize) -> usize
     requires { at + length (amount_of mills) ≤ length out.old }
     ensures { Piece out.old at (amount_of mills) result out.new }

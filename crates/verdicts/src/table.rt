@@ -6,16 +6,12 @@ ghost use Rattle.spreads.specs.Spreads.{group_in};
 ghost use Rattle.spreads.specs.Boxes.{margin_of};
 ghost use Rattle.verdicts.specs.Steps.Pieces.{Piece};
 ghost use Rattle.verdicts.specs.TableText.{group_line, group_text, shown_of, strike_line, strike_lines, table_text};
-ghost use Rattle.verdicts.specs.Steps.Files.{HasRecords};
 ghost use Rattle.verdicts.specs.Steps.Groups.{GroupPasses, ShownBy, group_table, groups_text, worksheet_lines};
 
-use crate::file::check_copied;
+use crate::file::{CLAIMS_BYTES, LEGS_BYTES, Scanned};
 use crate::line::refuse_line;
 use crate::pieces::{put_amount, put_byte, put_count, put_text};
-use blocks::{Counts, Reading};
-use records::{MOST_CLAIMS, MOST_LEGS, RECORD_BYTES};
-use sheets::Verdict;
-use spreads::Listed;
+use records::{MOST_LEGS, RECORD_BYTES};
 
 // Room for every table: none is longer than 8,608 bytes.
 pub const TABLE_BYTES: usize = 8704;
@@ -45,15 +41,14 @@ fn put_strike_lines(strikes: &[u32], nets: &[i64], out: &mut [u8], at: usize) ->
     ensures { Piece out.old at (strike_lines strikes.now nets.now) result out.new }
 {
     let mut next = at;
-    let mut i: usize = 0;
-    while i < strikes.len() {
+    for i in 0..strikes.len() {
         next = put_strike_line(strikes[i] as u64, nets[i], out, next);
-        i += 1;
     }
     next
 }
 
-// The lines under the margin of a spread. No placement has more strikes than the lists have room for.
+// The lines under the margin of a spread. No placement has more strikes than the lists have room for. They are two, side by
+// side, as `spreads::worksheet` fills them.
 fn put_worksheet(placement: &[u8], g: usize, out: &mut [u8], at: usize) -> usize
     requires group_passes { GroupPasses placement.now g }
     requires g_in_bounds { at + length (worksheet_lines placement.now g) ≤ length out.old }
@@ -62,27 +57,24 @@ fn put_worksheet(placement: &[u8], g: usize, out: &mut [u8], at: usize) -> usize
     let mut strikes = [0u32; MOST_LEGS];
     let mut nets = [0i64; MOST_LEGS];
     match spreads::worksheet(placement, g, &mut strikes, &mut nets) {
-        Listed::Entries(n) => put_strike_lines(&strikes[..n], &nets[..n], out, at),
+        Ok(n) => put_strike_lines(&strikes[..n], &nets[..n], out, at),
         // A spread of a checked placement is never refused.
-        Listed::Refused(_) => at,
+        Err(_) => at,
     }
 }
 
 // The records of group g, one after the other from byte 0 of a lent table on, and how many bytes they are.
-fn copy_group(placement: &[u8], g: usize, table: &mut [u8]) -> usize
-    requires { length placement.now ≤ length table.old }
+fn copy_group(placement: &[u8], g: usize, table: &mut [u8; LEGS_BYTES]) -> usize
+    requires { length placement.now ≤ 8192 }
     ensures { Piece table.old 0 (group_table placement.now g) result table.new }
 {
-    let n = placement.len() / RECORD_BYTES;
     let mut next: usize = 0;
-    let mut place: usize = 0;
-    while place < n {
+    for place in 0..placement.len() / RECORD_BYTES {
         if records::leg_at(placement, place).group as usize == g {
             let at = RECORD_BYTES * place;
             let end = at + RECORD_BYTES;
             next = put_text(&placement[at..end], table, next);
         }
-        place += 1;
     }
     next
 }
@@ -92,12 +84,11 @@ fn put_group(
     placement: &[u8],
     g: usize,
     margin: u64,
-    table: &mut [u8],
+    table: &mut [u8; LEGS_BYTES],
     out: &mut [u8],
     at: usize,
 ) -> usize
     requires group_passes { GroupPasses placement.now g × (margin ≡ margin_of (group_in placement.now g)) }
-    requires placement_in_bounds { length placement.now ≤ length table.old }
     requires g_in_bounds { at + length (group_text (shown_of g (group_in placement.now g))) ≤ length out.old }
     ensures { Piece out.old at (group_text (shown_of g (group_in placement.now g))) result out.new }
 {
@@ -110,38 +101,33 @@ fn put_group(
 fn put_groups(
     placement: &[u8],
     claims: &[u8],
-    table: &mut [u8],
+    table: &mut [u8; LEGS_BYTES],
     out: &mut [u8; TABLE_BYTES],
 ) -> usize
-    requires shown_by { ShownBy placement.now claims.now }
-    requires placement_in_bounds { length placement.now ≤ length table.old }
+    requires { ShownBy placement.now claims.now }
     ensures { Piece out.old 0 (groups_text placement.now claims.now) result out.new }
 {
-    let n = claims.len() / RECORD_BYTES;
     let mut next: usize = 0;
-    let mut k: usize = 0;
-    while k < n {
+    for k in 0..claims.len() / RECORD_BYTES {
         let claim = records::claim_at(claims, k);
         next = put_group(placement, k + 1, claim.margin, table, out, next);
-        k += 1;
     }
     next
 }
 
 // The text of a file of good blocks, by its tables. Once the sheet is judged the table of the holdings is free for the
 // records of a group, so that no more is cleared.
-fn read_table(counts: Counts, file: &[u8], out: &mut [u8; TABLE_BYTES]) -> usize
-    requires { HasRecords file.now counts }
-    ensures { Piece out.old 0 (table_text file.now) result out.new }
+fn read_table(scanned: &Scanned<'_>, out: &mut [u8; TABLE_BYTES]) -> usize
+    ensures { Piece out.old 0 (table_text scanned.now.file.now) result out.new }
 {
-    let mut holdings = [0u8; RECORD_BYTES * MOST_LEGS];
-    let mut placement = [0u8; RECORD_BYTES * MOST_LEGS];
-    let mut claims = [0u8; RECORD_BYTES * MOST_CLAIMS];
-    let p = RECORD_BYTES * counts.placement;
-    let c = RECORD_BYTES * counts.claims;
-    match check_copied(counts, file, &mut holdings, &mut placement, &mut claims) {
-        Verdict::Refused(refusal) => refuse_line(refusal, out),
-        Verdict::Accepted(_, _, _) => put_groups(&placement[..p], &claims[..c], &mut holdings, out),
+    let mut holdings = [0u8; LEGS_BYTES];
+    let mut placement = [0u8; LEGS_BYTES];
+    let mut claims = [0u8; CLAIMS_BYTES];
+    let p = RECORD_BYTES * scanned.counts.placement;
+    let c = RECORD_BYTES * scanned.counts.claims;
+    match scanned.check_copied(&mut holdings, &mut placement, &mut claims) {
+        Err(refusal) => refuse_line(refusal, out),
+        Ok(_) => put_groups(&placement[..p], &claims[..c], &mut holdings, out),
     }
 }
 
@@ -152,7 +138,13 @@ pub fn table_text(file: &[u8], out: &mut [u8; TABLE_BYTES]) -> usize
     ensures out_after { out.new ≡ put_at out.old 0 (table_text file.now) }
 {
     match blocks::scan_file(file) {
-        Reading::Refused(refusal) => refuse_line(refusal, out),
-        Reading::Read(counts, _) => read_table(counts, file, out),
+        Err(refusal) => refuse_line(refusal, out),
+        Ok(found) => {
+            let scanned = Scanned {
+                file,
+                counts: found.counts,
+            };
+            read_table(&scanned, out)
+        }
     }
 }

@@ -1,19 +1,14 @@
--- How long blocks and tables are at most, and what is read and written within that.
-use Rattle.std.specs.Prelude.{ℕ, ◌*◌, ◌≤◌, ◌≡◌, length, take}
-use mathlib.Core.List.{List, flatten}
+-- How long blocks and tables are at most, and the tables as they are lent.
+use Rattle.std.specs.Prelude.{ℕ, ◌*◌, ◌≤◌, ◌≡◌, List, length, take}
 use Rattle.records.specs.Limits.{record_bytes}
 use Rattle.records.specs.Tables.{limit_of}
-use Rattle.records.specs.Written.{put_at}
 use Rattle.records.specs.declared.tables.Kind.{Kind}
 use Rattle.records.specs.declared.tables.Kind.TheVariants.{Holdings, Placement, Claims}
 use Rattle.blocks.specs.Sizes.{block_bytes, full_block}
 use Rattle.blocks.specs.Block.{count_of}
-use Rattle.blocks.specs.File.{Tables, tables, blocks_for}
-use Rattle.blocks.specs.Writer.{Written}
-use Rattle.blocks.specs.declared.forms.Frame.{Frame}
-use Rattle.blocks.specs.declared.forms.Origin.{Origin}
+use Rattle.blocks.specs.File.{Tables, tables}
 use Rattle.blocks.specs.declared.answers.Counts.{Counts}
-use Rattle.blocks.specs.declared.answers.Writing.{Writing}
+use Rattle.blocks.specs.declared.writer.LentTables.{LentTables}
 
 -- a block of 512 bytes with at most 15 records
 pub record Sized (b : List ℕ) : Type 0 where
@@ -31,6 +26,10 @@ TablesFit t =
     × (length t.placement ≤ most_table_bytes Placement)
     × (length t.claims ≤ most_table_bytes Claims)
 
+-- the three tables that are lent to be written
+abbrev pub lent : LentTables → Tables
+lent t = tables t.holdings.now t.placement.now t.claims.now
+
 -- so many records of each kind stand in these tables
 abbrev pub Hold : Tables → Counts → Type 0
 Hold t n =
@@ -43,11 +42,3 @@ abbrev pub first_records : Counts → Tables → Tables
 first_records n t =
     tables (take (record_bytes * n.holdings) t.holdings) (take (record_bytes * n.placement) t.placement)
     (take (record_bytes * n.claims) t.claims)
-
--- a buffer after the blocks of three tables were put into it
-abbrev pub BlocksPut : Frame → Tables → List ℕ → List ℕ → Type 0
-BlocksPut f t before after = after ≡ put_at before 0 (flatten (blocks_for f t))
-
--- `Written`, of so many records of each kind
-abbrev pub Rewritten : Origin → Counts → List ℕ → List ℕ → List ℕ → List ℕ → Writing → List ℕ → Type 0
-Rewritten o n h p c before r after = Written o (first_records n (tables h p c)) before r after

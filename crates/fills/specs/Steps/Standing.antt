@@ -1,19 +1,10 @@
--- Rows as records of which so many contracts are held, and what a posting leaves of them.
-use Rattle.std.specs.Prelude.{ℕ, zero, suc, ◌+◌, ◌≤◌, ◌≡◌, true, cond, List, [], ◌∷◌, ◌++◌, eqb, length, get_or}
+-- Rows as records of which so many contracts are held.
+use Rattle.std.specs.Prelude.{ℕ, zero, suc, ◌+◌, ◌≤◌, ◌≡◌, true, cond, List, [], ◌∷◌, ◌++◌, eqb, length, get_or, Option, None, Some}
 use Rattle.records.specs.Legs.{contracts_from, with_contracts}
 use Rattle.records.specs.Lines.{same_line_side}
-use Rattle.records.specs.Order.{first_of}
 use Rattle.records.specs.Limits.{most_legs}
 use Rattle.records.specs.declared.legs.Leg.{Leg}
-use Rattle.records.specs.declared.refusals.Fault.{Fault}
-use Rattle.records.specs.declared.refusals.Fault.TheVariants.{Nothing, Is}
-use Rattle.fills.specs.Rows.{held_of, opened, closed, merged_rows}
-use Rattle.fills.specs.Played.{open_number, close_number}
-use Rattle.fills.specs.Calls.{ask_past}
 use Rattle.fills.specs.Steps.Links.{most_records, most_links, bucket_of, Rising, Leads}
-use Rattle.fills.specs.declared.merge.Merged.{Merged}
-use Rattle.fills.specs.declared.merge.Merged.TheVariants.{Rows, Refused}
-use Rattle.fills.specs.declared.steps.Posting.{Posting}
 
 -- the row of record k; where none of its contracts is held, there is none
 abbrev pub row_at : (ℕ → Leg) → List ℕ → ℕ → List Leg
@@ -45,29 +36,9 @@ pub record Stand (leg : ℕ → Leg) (k : ℕ) (held links : List ℕ) (n : ℕ)
   pub are : rows_to leg held k ≡ rows
   pub later : (j : ℕ) → k ≤ j → get_or held j 0 ≡ 0
   pub rising : Rising k links
-  pub linked : (j : ℕ) → Live held j → Leads links (bucket_of (leg j)) j
+  pub linked : (j : ℕ) → Live held j → ∥ Leads links (bucket_of (leg j)) j ∥₁
   pub apart : (i j : ℕ) → Live held i → Live held j → same_line_side (leg i) (leg j) ≡ true → i ≡ j
 
--- a posting of record k with this number: rows `after` stand then where it is 0, and `before` where it is not
-pub record Posted (leg : ℕ → Leg) (k refused : ℕ) (after before : List Leg) (held links : List ℕ) (r : Posting) : Type 0 where
-  pub number : r.number ≡ refused
-  pub stand : Stand leg (k + 1) held links r.rows (cond (eqb refused 0) after before)
-
--- those that record k leaves where it is opened, and where it is closed, over n rows of the records before it
-abbrev pub Opening : (ℕ → Leg) → ℕ → List ℕ → ℕ → List ℕ → List ℕ → Posting → Type 0
-Opening leg k before n held links r =
-    Posted leg k (open_number (held_of (leg k) (rows_to leg before k)) n (leg k).contracts.0) (opened (leg k) (rows_to leg before k)) (rows_to leg before k) held links r
-
-abbrev pub Closing : (ℕ → Leg) → ℕ → List ℕ → List ℕ → List ℕ → Posting → Type 0
-Closing leg k before held links r =
-    Posted leg k (close_number (held_of (leg k) (rows_to leg before k)) (leg k).contracts.0) (closed (leg k) (rows_to leg before k)) (rows_to leg before k) held links r
-
--- ---- the starting rows
-
-abbrev pub merged_answer : Fault → ℕ → Merged
-merged_answer Nothing n = Rows n
-merged_answer (Is r) n = Refused r
-
--- 19, or how many rows there are
-unfoldable pub merged_of : List Leg → Merged
-merged_of legs = merged_answer (first_of (ask_past [] 0 legs)) (length (merged_rows legs))
+-- the number that a posting is refused with, 0 where it is not
+abbrev pub refused_with : ℕ → Option ℕ
+refused_with number = cond (eqb number 0) None (Some number)

@@ -1,6 +1,6 @@
 -- The search for the first record of a line and side, from link to link.
 -- A link is to a record, counted from 1, or to none, 0. There is one for each bucket and eight for each record.
-use Rattle.std.specs.Prelude.{◌≡◌, true, false, cond, List, ℕ, suc, ◌+◌, ◌*◌, ◌/◌, ◌%◌, ◌≤◌, ◌<◌, ltb, length, get_or}
+use Rattle.std.specs.Prelude.{◌≡◌, Bool, true, false, cond, ◌&&◌, List, ℕ, suc, ◌+◌, ◌*◌, ◌/◌, ◌%◌, ◌≤◌, ◌<◌, ltb, eqb, length, get_or}
 use Rattle.records.specs.declared.legs.Leg.{Leg}
 use Rattle.sheets.specs.Steps.Pooled.{most_pooled, alike}
 use Rattle.sheets.specs.declared.links.Digits.{Digits}
@@ -63,21 +63,28 @@ pub record Packed (l : Leg) : Type 0 where
   pub underlying : l.underlying < 4294967296
   pub strike : l.strike < 134217728
 
--- at the index of each linked record stand the words of its line and side
-pub record Worded (leg : ℕ → Leg) (lows highs : List ℕ) (j : ℕ) : Type 0 where
-  pub packed : Packed (leg j)
-  pub low : get_or lows j 0 ≡ (digits_of (leg j)).low
-  pub high : get_or highs j 0 ≡ (digits_of (leg j)).high
+-- both words are the same
+abbrev pub same_words : Digits → Digits → Bool
+same_words a b = eqb a.low b.low && eqb a.high b.high
 
-abbrev pub AllWorded : (ℕ → Leg) → List ℕ → List ℕ → List ℕ → Type 0
-AllWorded leg lows highs links = (l j : ℕ) → get_or links l 0 ≡ suc j → Worded leg lows highs j
+-- what stands at an index of a list of words
+abbrev pub words_at : List Digits → ℕ → Digits
+words_at words j = get_or words j (record { low = 0; high = 0 })
+
+-- at the index of each linked record stand the words of its line and side
+pub record Worded (leg : ℕ → Leg) (words : List Digits) (j : ℕ) : Type 0 where
+  pub packed : Packed (leg j)
+  pub digits : words_at words j ≡ digits_of (leg j)
+
+abbrev pub AllWorded : (ℕ → Leg) → List Digits → List ℕ → Type 0
+AllWorded leg words links = (l j : ℕ) → get_or links l 0 ≡ suc j → Worded leg words j
 
 -- the lists of words and links are of one size
-abbrev pub WordRooms : List ℕ → List ℕ → List ℕ → Type 0
-WordRooms lows highs links = (length lows ≤ most_pooled) × (length highs ≡ length lows) × (links_of (length lows) ≤ length links)
+abbrev pub WordRooms : List Digits → List ℕ → Type 0
+WordRooms words links = (length words ≤ most_pooled) × (links_of (length words) ≤ length links)
 
 -- where a search by a bucket and two words ends, among records of which the words are known
-abbrev pub EndsFor : List ℕ → List ℕ → List ℕ → ℕ → Digits → ℕ → Type 0
-EndsFor lows highs links bucket whole end =
-    (leg : ℕ → Leg) → AllWorded leg lows highs links
+abbrev pub EndsFor : List Digits → List ℕ → ℕ → Digits → ℕ → Type 0
+EndsFor words links bucket whole end =
+    (leg : ℕ → Leg) → AllWorded leg words links
     → (x : Leg) → Packed x → whole ≡ digits_of x → bucket ≡ bucket_of x → Ends leg links x (digits_of x) (bucket_of x) end

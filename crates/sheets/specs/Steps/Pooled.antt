@@ -1,5 +1,5 @@
 -- The records of holdings and placement pooled, and numbered by line and side.
-use Rattle.std.specs.Prelude.{◌≡◌, Bool, cond, List, ℕ, ◌+◌, ◌-◌, ◌*◌, ◌/◌, ◌≤◌, ◌<◌, eqb, ltb, length, get_or}
+use Rattle.std.specs.Prelude.{◌≡◌, Bool, cond, List, ℕ, ◌+◌, ◌-◌, ◌*◌, ◌/◌, ◌≤◌, ◌<◌, eqb, ltb, length, get_or, Result, Ok}
 use Rattle.records.specs.Limits.{record_bytes}
 use Rattle.records.specs.Chunks.{chunk_at}
 use Rattle.records.specs.Legs.{leg_of}
@@ -7,10 +7,10 @@ use Rattle.records.specs.Lines.{same_line_side, contracts_of}
 use Rattle.records.specs.Order.{first_of, ask_each}
 use Rattle.records.specs.Tables.{most_legs, table_number, field_checks, legs_of}
 use Rattle.records.specs.declared.legs.Leg.{Leg}
-use Rattle.records.specs.declared.refusals.Fault.{Fault}
-use Rattle.records.specs.declared.refusals.Fault.TheVariants.{Nothing}
 use Rattle.records.specs.declared.tables.Kind.{Kind}
 use Rattle.records.specs.declared.tables.Kind.TheVariants.{Holdings, Placement}
+use Rattle.records.specs.declared.refusals.Refusal.{Refusal}
+use Rattle.sheets.specs.declared.sums.ContractSum.{ContractSum}
 
 -- record k of the two tables taken as one, holdings first
 unfoldable pub pooled_leg : List ℕ → List ℕ → ℕ → Leg
@@ -55,26 +55,30 @@ AllNumbered h p numbers = LineNumbered (pooled_leg h p) (pooled_records h p) num
 
 -- holdings and placement have passed 4
 abbrev pub FieldsGood : List ℕ → List ℕ → Type 0
-FieldsGood h p = (first_of (field_checks Holdings h) ≡ Nothing) × (first_of (field_checks Placement p) ≡ Nothing)
+FieldsGood h p = (first_of (field_checks Holdings h) ≡ Ok tt) × (first_of (field_checks Placement p) ≡ Ok tt)
 
 -- the records of a table are those from `first` on
 abbrev pub StandsAt : (ℕ → Leg) → ℕ → List ℕ → Type 0
 StandsAt leg first table = (i : ℕ) → i < length table / record_bytes → leg (first + i) ≡ leg_of (chunk_at record_bytes table i)
 
+-- the sum with number c
+abbrev pub sum_at : List ContractSum → ℕ → ℕ
+sum_at sums c = (get_or sums c (record { 0 = 0 })).0
+
 -- at each record's number stand the contracts of its line and side in the table
-abbrev pub Tallied : List ℕ → ℕ → List ℕ → List ℕ → Type 0
+abbrev pub Tallied : List ℕ → ℕ → List ℕ → List ContractSum → Type 0
 Tallied numbers first table sums =
     (leg : ℕ → Leg) (n : ℕ) → LineNumbered leg n numbers → first + length table / record_bytes ≤ n → StandsAt leg first table
-    → (k : ℕ) → k < n → get_or sums (get_or numbers k 0) 0 ≡ contracts_of (leg k) (legs_of table)
+    → (k : ℕ) → k < n → sum_at sums (get_or numbers k 0) ≡ contracts_of (leg k) (legs_of table)
 
 -- a test of a table's records, answered by two lists of sums
-abbrev pub SumsAnswer : (Leg → Bool) → List ℕ → ℕ → List ℕ → List ℕ → List ℕ → Type 0
+abbrev pub SumsAnswer : (Leg → Bool) → List ℕ → ℕ → List ℕ → List ContractSum → List ContractSum → Type 0
 SumsAnswer good table first numbers held placed =
     (i : ℕ) → i < length table / record_bytes
-    → good (leg_of (chunk_at record_bytes table i)) ≡ eqb (get_or held (get_or numbers (first + i) 0) 0) (get_or placed (get_or numbers (first + i) 0) 0)
+    → good (leg_of (chunk_at record_bytes table i)) ≡ eqb (sum_at held (get_or numbers (first + i) 0)) (sum_at placed (get_or numbers (first + i) 0))
 
 -- so that the first record whose sums differ is the first that fails any test they answer
-abbrev pub FirstUneven : Kind → List ℕ → ℕ → List ℕ → List ℕ → List ℕ → Fault → Type 0
+abbrev pub FirstUneven : Kind → List ℕ → ℕ → List ℕ → List ContractSum → List ContractSum → Result Unit Refusal → Type 0
 FirstUneven kind table first numbers held placed r =
     (good : Leg → Bool) → SumsAnswer good table first numbers held placed
     → r ≡ first_of (ask_each good 14 (table_number kind) 0 (legs_of table))

@@ -1,14 +1,12 @@
 -- What the stages of the check compute.
-use Rattle.std.specs.Prelude.{◌≡◌, Bool, false, cond, List, [], ◌∷◌, ◌++◌, ℕ, ◌-◌, eqb, ℤ, pos, negsuc, length, get_or}
+use Rattle.std.specs.Prelude.{◌≡◌, Bool, false, cond, List, [], ◌∷◌, ◌++◌, ℕ, ◌-◌, eqb, ℤ, pos, negsuc, length, get_or, Result, Ok, Err}
 use Rattle.records.specs.Order.{Check, ask, first_of}
 use Rattle.records.specs.declared.claims.Claim.{Claim}
 use Rattle.records.specs.Tables.{whole_tables, field_checks, legs_of, claims_of}
 use Rattle.records.specs.declared.refusals.Refusal.{Refusal}
-use Rattle.records.specs.declared.refusals.Fault.TheVariants.{Nothing}
 use Rattle.records.specs.declared.tables.Kind.TheVariants.{Holdings, Claims}
 use Rattle.spreads.specs.Work.{work_up_to}
-use Rattle.sheets.specs.Sheets.{claim_for, ask_numbered, ask_named, last_checks}
-use Rattle.sheets.specs.declared.sheet.Judged.{Judged}
+use Rattle.sheets.specs.Sheets.{claim_for, ask_numbered, ask_named, last_checks, sheet_checks}
 
 -- what is asked first: 1 of three tables, and 4 of the holdings
 unfoldable pub opening_checks : List ℕ → List ℕ → List ℕ → List Check
@@ -16,7 +14,7 @@ opening_checks h p c = ask (whole_tables (length h) (length p) (length c)) 1 0 0
 
 -- three tables that have passed that
 abbrev pub Opened : List ℕ → List ℕ → List ℕ → Type 0
-Opened h p c = first_of (opening_checks h p c) ≡ Nothing
+Opened h p c = first_of (opening_checks h p c) ≡ Ok tt
 
 -- a check that fails so
 abbrev pub failing : Refusal → Check
@@ -30,9 +28,14 @@ claimed_checks p c = field_checks Claims c ++ (ask_numbered 0 (claims_of c) ++ a
 unfoldable pub called_checks : List ℕ → List ℕ → Refusal → List Check
 called_checks p c r = cond (eqb r.number 4) (failing r ∷ []) (claimed_checks p c ++ failing r ∷ [])
 
--- where nothing is refused the intrinsic values of groups 1 to n are counted
-abbrev pub WorkedOut : List ℕ → List ℕ → Judged → Type 0
-WorkedOut p c r = r.fault ≡ Nothing → r.values ≡ work_up_to (length (claims_of c)) (legs_of p)
+-- the first refusal, or how many intrinsic values were worked out
+abbrev pub worked_out : Result Unit Refusal → ℕ → Result ℕ Refusal
+worked_out (Ok _) values = Ok values
+worked_out (Err r) values = Err r
+
+-- that of a sheet, for the intrinsic values of as many groups as it has claims
+unfoldable pub judged : List ℕ → List ℕ → List ℕ → Result ℕ Refusal
+judged h p c = worked_out (first_of (sheet_checks h p c)) (work_up_to (length (claims_of c)) (legs_of p))
 
 -- ---- claims against a list of margins, that of group g at index g - 1
 

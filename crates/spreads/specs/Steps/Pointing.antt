@@ -1,5 +1,5 @@
 -- Document 02, request 14, as the code goes about it: first the number of a group's refusal, then the leg that it points at.
-use Rattle.std.specs.Prelude.{ℕ, ◌+◌, ◌≡◌, Bool, true, false, not, ◌||◌, cond, List, leb, eqb, length, take}
+use Rattle.std.specs.Prelude.{ℕ, ◌+◌, ◌≡◌, Bool, true, false, not, ◌||◌, cond, List, leb, ltb, eqb, length, take, Option, Some, None}
 use Rattle.records.specs.Within.{within}
 use Rattle.records.specs.declared.legs.Leg.{Leg}
 use Rattle.spreads.specs.Spreads.{one_of, none_doubled, none_outlives, first_broken}
@@ -30,6 +30,10 @@ Breaks number legs = points_at_leg number ≡ true → condition_of number legs 
 -- the first leg with which the legs break a condition; how many they are where none does
 unfoldable pub broken_at : (List Leg → Bool) → List Leg → ℕ
 broken_at kept legs = lowest_from (λ k. not (kept (take (k + 1) legs))) 0 (length legs)
+
+-- an index below n, where there is one
+abbrev pub index_in : ℕ → ℕ → Option ℕ
+index_in n k = cond (ltb k n) (Some k) None
 
 -- ---- by the facts so far
 

@@ -1,5 +1,5 @@
 -- The table of a sheet, group by group.
-use Rattle.std.specs.Prelude.{◌≡◌, ℕ, ◌/◌, eqb, length}
+use Rattle.std.specs.Prelude.{◌≡◌, ℕ, ◌/◌, eqb, length, Ok}
 use mathlib.Core.List.{List, flatten}
 use Rattle.records.specs.Limits.{record_bytes}
 use Rattle.records.specs.Chunks.{records_of}
@@ -7,7 +7,6 @@ use Rattle.records.specs.Legs.{leg_of}
 use Rattle.records.specs.Lists.{keep}
 use Rattle.records.specs.Order.{first_of}
 use Rattle.records.specs.Tables.{legs_of}
-use Rattle.records.specs.declared.refusals.Fault.TheVariants.{Nothing}
 use Rattle.spreads.specs.Calls.{group_checks}
 use Rattle.spreads.specs.Spreads.{group_in}
 use Rattle.spreads.specs.Strikes.{strikes_of, nets_of}
@@ -16,7 +15,7 @@ use Rattle.verdicts.specs.TableText.{strike_lines, shown_in, shown_text}
 
 -- the calls of group g refuse nothing of this placement
 abbrev pub GroupPasses : List ℕ → ℕ → Type 0
-GroupPasses placement g = first_of (group_checks placement g) ≡ Nothing
+GroupPasses placement g = first_of (group_checks placement g) ≡ Ok tt
 
 -- the records of group g, one after the other: a table of that group alone
 unfoldable pub group_table : List ℕ → ℕ → List ℕ

@@ -1,0 +1,6 @@
+use Rattle.std.proofs.Common.{◌∙◌}
+use Rattle.records.proofs.WordLaws.{two_at}
+use Rattle.records.proofs.fields.u16_in.Goals as goal
+
+pub returns : goal.returns
+returns c = c.from_le_bytes.ensures ∙ rw c.bytes_in.ensures (two_at c.args.part.now c.args.at)

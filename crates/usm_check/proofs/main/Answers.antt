@@ -1,0 +1,10 @@
+use Rattle.std.proofs.Common.{sym}
+use lib.Seq.{length-take-le}
+use Rattle.records.proofs.PutLaws.{put_holds}
+use Rattle.usm_check.proofs.main.Goals as goal
+
+pub slice_bounds-line-end : goal.slice_bounds-line-end
+slice_bounds-line-end c = let k = c.verdict_line-k.ensures in rw (k.out_after, k.value) (put_holds _ _)
+
+pub slice_bounds-write_all-end : goal.slice_bounds-write_all-end
+slice_bounds-write_all-end c = let k = c.verdict_line-k.ensures in sym (length-take-le _ _ (rw (k.out_after, k.value) (put_holds _ _)))
