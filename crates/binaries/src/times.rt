@@ -11,14 +11,15 @@ pub(crate) struct Date {
     ghost real: { real_date day ≡ true },
 }
 
-// Whether any number is a real date.
+// No real date is later.
+const LAST_DATE: u64 = 20991231;
+
+// Whether any number is a real date. A late one is told before year, month and day are taken from it; `try_from` would ask
+// a second test of each.
 pub(crate) fn is_date(n: u64) -> bool
     ensures { result ≡ real_date n }
 {
-    match u32::try_from(n) {
-        Ok(date) => records::real_date(date),
-        Err(_) => false,
-    }
+    n <= LAST_DATE && records::real_date(n as u32)
 }
 
 // A year on is the same month and day.

@@ -2,10 +2,10 @@
 ghost use Rattle.std.specs.Prelude.{◌≡◌};
 ghost use Rattle.blocks.specs.Alone.{alone_call};
 
-use crate::answers::refused;
 use crate::checks::sums_agree;
 use crate::fields::file_fields_fault;
 use crate::forms::{Origin, is_named};
+use crate::refusals::refused;
 use crate::shape::{BLOCK_BYTES, origin_of, well_shaped};
 use records::Refusal;
 
@@ -21,11 +21,16 @@ fn judge_whole(block: &[u8; BLOCK_BYTES]) -> Result<Origin, Refusal>
     if !well_shaped(form, block) {
         return Err(refused(3, 0));
     }
-    file_fields_fault(block)?;
-    if !is_named(form, origin.account) {
-        return Err(refused(20, 0));
+    // The refusal has an arm of its own, which the edit `bad_field_kept` gets wrong.
+    match file_fields_fault(block) {
+        Err(refusal) => Err(refusal),
+        Ok(()) => {
+            if !is_named(form, origin.account) {
+                return Err(refused(20, 0));
+            }
+            Ok(origin)
+        }
     }
-    Ok(origin)
 }
 
 // Refusals 1, 2, 3, 4 and 20 of a block by itself, with numbering, order, short-block and limit rules set

@@ -57,7 +57,7 @@ fields_checks h p c = field_checks Holdings h ++ (field_checks Placement p ++ fi
 unfoldable pub table_checks : Kind → List ℕ → List Check
 table_checks kind xs = ask (whole_table kind (length xs)) 1 0 0 ∷ field_checks kind xs
 
--- what the answer `Counted` says of each case: the refusal, or how many records
+-- what the answer says of each case: the refusal, or how many records
 abbrev pub check_answer : Result Unit Refusal → ℕ → Result ℕ Refusal
 check_answer (Ok _) n = Ok n
 check_answer (Err r) n = Err r

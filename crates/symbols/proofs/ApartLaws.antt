@@ -32,7 +32,7 @@ terms_refl : (a : Terms) → same_terms a a ≡ true
 unfolding same_terms
 terms_refl a = same_refl (five a)
 
-terms_sym : (a b : Terms) → same_terms a b ≡ same_terms b a
+pub terms_sym : (a b : Terms) → same_terms a b ≡ same_terms b a
 unfolding same_terms
 terms_sym a b = same_sym (five a) (five b)
 

@@ -11,7 +11,7 @@ use native.Mathlib.Omega.{arith}
 use lib.Dec.{eqb, ltb}
 use lib.ListN.{length, get_or, take, drop, length-take, length-drop, drop_of_length-le}
 use lib.Seq.{take-suc, drop-cons}
-use borrow.Author.Tests.{eqb-true, not-true, lt-ltb, le-ltb, ltb-true, ltb-false}
+use borrow.Author.Tests.{eqb-true, ne_eqb, not-true, lt-ltb, le-ltb, ltb-true, ltb-false}
 use Rattle.records.specs.Lists.{same, all_of}
 use Rattle.records.specs.Order.{ask, refuse, first_of}
 use Rattle.records.specs.Within.{within}
@@ -158,3 +158,7 @@ pub terms_eq : (a b : Terms)
     → (eqb a.underlying b.underlying && (eqb a.style b.style && (eqb a.market b.market && (eqb a.size b.size && eqb a.settlement b.settlement)))) ≡ same_terms a b
 unfolding same_terms same
 terms_eq a b = underlying_first (eqb a.underlying b.underlying) (eqb a.style b.style) (eqb a.market b.market) (eqb a.size b.size) (eqb a.settlement b.settlement)
+
+pub terms_apart : (a b : Terms) → (a.underlying ≡ b.underlying → ⊥) → false ≡ same_terms a b
+unfolding same_terms same
+terms_apart a b h = rw (ne_eqb a.underlying b.underlying h) (simp and-false)

@@ -46,12 +46,14 @@ pub(crate) fn good_name(name: &[u8]) -> bool
     is_letter(name[0]) & is_padded(name)
 }
 
-// The first six characters of a part as one number.
+// The first six characters of a part as one number, of four and of two: what is read at once.
 fn name_number(part: &[u8]) -> u64
     requires { 6 ≤ length part.now }
     ensures { result ≡ le_at part.now 0 6 }
 {
-    u64::from_le_bytes([part[0], part[1], part[2], part[3], part[4], part[5], 0, 0])
+    let low = u32::from_le_bytes([part[0], part[1], part[2], part[3]]);
+    let high = u16::from_le_bytes([part[4], part[5]]);
+    low as u64 + 4294967296 * (high as u64)
 }
 
 // Whether two parts begin with one root. Two numbers are compared sooner than six characters.

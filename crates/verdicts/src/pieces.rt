@@ -16,9 +16,8 @@ pub(crate) fn put_text(text: &[u8], out: &mut [u8], at: usize) -> usize
     requires { at + length text.now ≤ length out.old }
     ensures { Piece out.old at text.now result out.new }
 {
-    let end = at + text.len();
-    out[at..end].copy_from_slice(text);
-    end
+    records::copy_to(out, at, text);
+    at + text.len()
 }
 
 // The digits of a tenth come first, then the last digit, where they end. A loop would need the number of digits first.

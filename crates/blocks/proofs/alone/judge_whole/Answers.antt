@@ -2,7 +2,6 @@ use Rattle.std.specs.Prelude.{Result, Ok}
 use Rattle.std.proofs.Common.{◌≡◌, Bool, List, ℕ, sym, ap, ◌∙◌, length}
 use Rattle.records.specs.Order.{first_of}
 use Rattle.records.specs.declared.refusals.Refusal.{Refusal}
-use Rattle.records.proofs.ErrorLaws.{handed_on}
 use Rattle.blocks.specs.Forms.{named}
 use Rattle.blocks.specs.Block.{origin_of, shaped}
 use Rattle.blocks.specs.File.{Tables, tables_in, fields_of}
@@ -38,28 +37,27 @@ file_fields_fault-requires c =
     let shape = shape_said b _ _ _ c.origin_of-origin.ensures c.well_shaped.ensures c.if-not-well_shaped.false in
     rw (one_block b c.told-block) (shaped_sized b c.told-block shape, tt)
 
-pub returns-in_err-file_fields_fault : goal.returns-in_err-file_fields_fault
-returns-in_err-file_fields_fault c =
+pub returns-in-Err : goal.returns-in-Err
+returns-in-Err c =
     let b = c.args.block.now in
     let agree = sym c.sums_agree.ensures ∙ c.if-not-sums_agree.false in
     let shape = shape_said b _ _ _ c.origin_of-origin.ensures c.well_shaped.ensures c.if-not-well_shaped.false in
-    handed_on _ c.in_err-file_fields_fault.field-0.0 c.from_residual.ensures.1
-    ∙ sym (alone_4 b c.told-block agree shape _ (fault_said b _ _ c.told-block c.file_fields_fault.ensures c.in_err-file_fields_fault.was))
+    sym (alone_4 b c.told-block agree shape _ (fault_said b _ _ c.told-block c.file_fields_fault.ensures c.in-Err.is))
 
 pub returns-then-not-is_named : goal.returns-then-not-is_named
 returns-then-not-is_named c =
     let b = c.args.block.now in
     let agree = sym c.sums_agree.ensures ∙ c.if-not-sums_agree.false in
     let shape = shape_said b _ _ _ c.origin_of-origin.ensures c.well_shaped.ensures c.if-not-well_shaped.false in
-    let fine = fault_said b _ _ c.told-block c.file_fields_fault.ensures c.in_ok-file_fields_fault.was in
+    let fine = fault_said b _ _ c.told-block c.file_fields_fault.ensures c.in-Ok.is in
     rw c.refused-then-not-is_named.ensures
     (sym (alone_20 b c.told-block agree shape fine (name_said b _ _ _ c.origin_of-origin.ensures c.is_named.ensures c.if-not-is_named.true)))
 
-pub returns : goal.returns
-returns c =
+pub returns-else-not-is_named : goal.returns-else-not-is_named
+returns-else-not-is_named c =
     let b = c.args.block.now in
     let agree = sym c.sums_agree.ensures ∙ c.if-not-sums_agree.false in
     let shape = shape_said b _ _ _ c.origin_of-origin.ensures c.well_shaped.ensures c.if-not-well_shaped.false in
-    let fine = fault_said b _ _ c.told-block c.file_fields_fault.ensures c.in_ok-file_fields_fault.was in
+    let fine = fault_said b _ _ c.told-block c.file_fields_fault.ensures c.in-Ok.is in
     ap Ok c.origin_of-origin.ensures
     ∙ sym (alone_sound b c.told-block agree shape fine (name_said b _ _ _ c.origin_of-origin.ensures c.is_named.ensures c.if-not-is_named.false))

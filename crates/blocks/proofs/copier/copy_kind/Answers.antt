@@ -1,8 +1,8 @@
-use Rattle.std.proofs.Common.{◌+◌, ◌≤◌, refl, ap, ◌∙◌, length, arith, rules}
+use Rattle.std.proofs.Common.{◌≡◌, ◌+◌, ◌≤◌, refl, ap, ◌∙◌, length, arith, rules}
 use lib.ListN.{length-append}
 use Rattle.records.specs.Chunks.{chunk_at}
 use Rattle.records.specs.Written.{put_at}
-use Rattle.records.proofs.PutLaws.{put_none, put_next}
+use Rattle.records.proofs.PutLaws.{put_none, put_put, put_room, length_put_at}
 use Rattle.blocks.specs.File.{records_as}
 use Rattle.blocks.proofs.FileLaws.{earlier, joined_back, joined_to, joined_next, joined_end, joined_room, part_is_as, blocks_long}
 use Rattle.blocks.proofs.copier.copy_kind.Goals as goal
@@ -12,18 +12,11 @@ unfolding joined_back earlier
 loop-block-init c = let d = c.args.table.now in (c.blocks_of-block-items.ensures.value, refl, refl, put_none d 0 d)
 
 -- the records of this block have room in the table
-pub overflow_add-end : goal.overflow_add-end
-overflow_add-end c =
+pub overflow_add-copied : goal.overflow_add-copied
+overflow_add-copied c =
     let l = c.loop-block in
     let p = part_is_as c.args.kind c.args.file.now _ l.block-index _ l.invariant.0 c.loop-block-test.true c.records_as-part.ensures.value in
     omega (arith, l.invariant.1, ap length p.1, joined_room c.args.kind c.args.file.now l.block-index p.0, c.requires)
-
-pub slice_bounds-copy_from_slice-end : goal.slice_bounds-copy_from_slice-end
-slice_bounds-copy_from_slice-end c =
-    let l = c.loop-block in
-    let p = part_is_as c.args.kind c.args.file.now _ l.block-index _ l.invariant.0 c.loop-block-test.true c.records_as-part.ensures.value in
-    let room : l.copied + length c.records_as-part.result.now ≤ length l.table = omega (arith, l.invariant.1, l.invariant.2, ap length p.1, joined_room c.args.kind c.args.file.now l.block-index p.0, c.requires) in
-    search rules
 
 pub loop-block-preserved : goal.loop-block-preserved
 loop-block-preserved c =
@@ -33,12 +26,13 @@ loop-block-preserved c =
     let i = l.block-index in
     let back = joined_to kind f i in
     let r = records_as kind (chunk_at 512 f i) in
-    let p = part_is_as kind f _ i _ l.invariant.0 c.loop-block-test.true c.records_as-part.ensures.value in (
+    let p = part_is_as kind f _ i _ l.invariant.0 c.loop-block-test.true c.records_as-part.ensures.value in
+    let room : l.copied + length r ≤ length l.table = omega (arith, l.invariant.1, l.invariant.2, joined_room kind f i p.0, c.requires) in
+    let put = rw p.1 at c.copy_to.ensures ∙ put_room l.table l.copied r room in (
       l.invariant.0,
       rw (joined_next kind f i, length-append back r) (omega (arith, ap length p.1, l.invariant.1)),
-      search rules,
-      rw (joined_next kind f i, c.copy_from_slice.ensures.after, p.1, l.invariant.3)
-          (put_next c.args.table.now back r 0 l.copied _ (omega arith) (omega (arith, l.invariant.1)) (omega arith)),
+      rw put (length_put_at l.table l.copied r room ∙ l.invariant.2),
+      rw (joined_next kind f i, put, l.invariant.3) (put_put c.args.table.now back r 0 l.copied (omega arith) (omega (arith, l.invariant.1))),
     )
 
 pub returns : goal.returns

@@ -1,15 +1,18 @@
-use Rattle.std.proofs.Common.{◌≡◌, ◌+◌, ◌-◌, ◌<◌, length, sym, ◌∙◌, arith}
-use Rattle.records.proofs.PutLaws.{put_part, put_room, put_no_room}
+use Rattle.std.proofs.Common.{◌+◌, ◌<◌, length, sym, ◌∙◌, arith}
+use Rattle.records.proofs.PutLaws.{put_none, put_more, put_all, put_room, put_no_room}
 use Rattle.records.proofs.bytes.copy_to.Goals.{else-at-to-via-then-at-to+else-from-to, else-at-to-via-else-at-to}
 use Rattle.records.proofs.bytes.copy_to.Goals as goal
 
-pub returns-then-from-to : goal.returns-then-from-to
-returns-then-from-to c =
-    let to = c.args.to.now in
-    let at = c.args.at in
-    let from = c.args.from.now in
-    let many : at + length from - at ≡ length from = omega arith in
-    rw c.copy_from_slice.ensures.after (put_part to at (at + length from - at) from many ∙ sym (put_room to at from (omega arith)))
+pub loop-i-init : goal.loop-i-init
+loop-i-init c = put_none c.args.to.now c.args.at c.args.from.now
+
+pub loop-i-preserved : goal.loop-i-preserved
+loop-i-preserved c =
+    rw c.loop-i.invariant (put_more 0 c.args.to.now c.args.at c.args.from.now c.loop-i.i (omega arith) (omega arith))
+
+pub returns-after-loop-i : goal.returns-after-loop-i
+returns-after-loop-i c =
+    c.loop-i.invariant ∙ put_all c.args.to.now c.args.at c.args.from.now c.loop-i.i (omega arith) ∙ sym (put_room c.args.to.now c.args.at c.args.from.now (omega arith))
 
 pub returns-else-at-to : goal.returns-else-at-to
 returns-else-at-to c =
