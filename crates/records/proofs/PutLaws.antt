@@ -1,12 +1,12 @@
 -- What a lent slice holds after writes: a loop that writes one element at a time, and one write after another.
 use mathlib.Core.Path.{◌≡◌, refl, sym, ap, ◌∙◌}
 use mathlib.Core.Bool.{Bool, true, false}
-use mathlib.Core.List.{List, [], ◌∷◌, ◌++◌, append_assoc}
+use mathlib.Core.List.{List, [], ◌∷◌, ◌++◌, append_assoc, append-nil}
 use Prim.Native.Nat.{ℕ, suc, ◌+◌, ◌≤◌, ◌<◌}
 use native.Mathlib.Nat.{add_assoc, zero-add}
 use native.Mathlib.Numerals.{add-one}
 use native.Mathlib.Omega.{arith}
-use lib.ListN.{length, take, drop, get_or, set, length-append, length-take, length-drop}
+use lib.ListN.{length, take, drop, get_or, set, length-append, length-take, length-drop, drop_of_length-le}
 use lib.Seq.{paste-zero, paste-suc, take_all, take_at, drop_at, drop-drop, drop-append-add, length-take-le, set_split}
 use borrow.Author.Tests.{le-leb, lt-leb}
 use borrow.Rule.Slice.PartMut.{put_mid}
@@ -96,9 +96,12 @@ module _ {A : Type 0} where
   unfolding put_at
   put_past d s = drop_at s (drop (0 + length s) d) (length s) refl ∙ simp zero-add
 
-  -- a list as long as the slice is all that then stands there
-  pub put_whole : (d s : List A) → length s ≡ length d → put_at d 0 s ≡ s
-  put_whole d s e = sym (take_all (length s) (put_at d 0 s) (rw (length_put_at d 0 s (omega arith)) (omega arith))) ∙ put_front d s
+  -- a list no shorter than the slice is all that then stands there
+  pub put_whole : (d s : List A) → length d ≤ length s → put_at d 0 s ≡ s
+  unfolding put_at
+  put_whole d s h =
+      let past : length d ≤ 0 + length s = omega (arith, h) in
+      rw (drop_of_length-le d past) (append-nil s)
 
   -- ---- where there is room, and where there is none
 

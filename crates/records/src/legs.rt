@@ -108,6 +108,7 @@ pub fn leg_at(table: &[u8], i: usize) -> Leg
 pub fn leg_bytes(leg: Leg) -> [u8; 32]
     ensures { result ≡ leg_bytes leg }
 {
+    let strike = leg.strike.to_le_bytes();
     let mut bytes = [0; RECORD_BYTES];
     bytes[0..2].copy_from_slice(&leg.group.to_le_bytes());
     bytes[2] = leg.side;
@@ -116,7 +117,8 @@ pub fn leg_bytes(leg: Leg) -> [u8; 32]
     bytes[5] = leg.market;
     bytes[6..8].copy_from_slice(&leg.size.to_le_bytes());
     bytes[8..12].copy_from_slice(&leg.underlying.to_le_bytes());
-    bytes[12..16].copy_from_slice(&leg.strike.to_le_bytes());
+    // One by one, so that the edit `leg_bytes_order` gets one byte wrong and no other.
+    bytes[12..16].copy_from_slice(&[strike[0], strike[1], strike[2], strike[3]]);
     bytes[16..20].copy_from_slice(&leg.expiry.to_le_bytes());
     bytes[20..24].copy_from_slice(&leg.contracts.0.to_le_bytes());
     bytes[24] = leg.settlement;

@@ -1,22 +1,23 @@
 -- What the salvage answers in each case, and what its own memory holds on the way.
 use Rattle.std.specs.Prelude.{Ok, Err, Some, None}
 use mathlib.Core.Path.{◌≡◌, sym, ap, ◌∙◌}
-use mathlib.Core.Bool.{true, false, ◌&&◌, and-eq-true_iff}
-use mathlib.Core.List.{List, ◌++◌, flatten}
-use Prim.Native.Nat.{ℕ, ◌*◌, ◌/◌, ◌≤◌}
+use mathlib.Core.Bool.{Bool, true, false, cond, ◌&&◌, and-eq-true_iff}
+use mathlib.Core.List.{List, [], ◌∷◌, ◌++◌, flatten}
+use Prim.Native.Nat.{ℕ, ◌+◌, ◌*◌, ◌/◌, ◌≤◌}
 use native.Mathlib.Nat.{zero-add}
 use native.Mathlib.Omega.{arith}
-use lib.Dec.{leb}
-use lib.ListN.{length, take, drop, length-map}
+use lib.Dec.{eqb, leb}
+use lib.ListN.{length, take, drop, length-append, length-map}
 use borrow.Author.Tests.{ne_eqb, le-leb, leb-true}
 use Rattle.records.specs.Lists.{All}
-use Rattle.records.specs.Listed.{indices_of, numbers_of}
+use Rattle.records.specs.Listed.{Entry, entry, indices_of, numbers_of}
 use Rattle.records.specs.Order.{refuse, first_of}
 use Rattle.records.specs.Within.{within}
 use Rattle.records.specs.Written.{put_at}
 use Rattle.records.specs.declared.tables.Kind.{Kind}
 use Rattle.records.specs.declared.tables.Kind.TheVariants.{Holdings, Placement, Claims}
-use Rattle.records.proofs.ListLaws.{all_map}
+use Rattle.records.proofs.ChunkLaws.{length_chunks}
+use Rattle.records.proofs.ListLaws.{all_map, length_keep}
 use Rattle.records.proofs.PassLaws.{clear}
 use Rattle.records.proofs.PutLaws.{put_front}
 use Rattle.records.proofs.JoinLaws.{length_flatten, cut_joined}
@@ -29,8 +30,8 @@ use Rattle.blocks.specs.Steps.Bounds.{Sized}
 use Rattle.blocks.specs.Writer.{write_checks}
 use Rattle.blocks.specs.declared.forms.Origin.{Origin}
 use Rattle.blocks.proofs.Laws.{copied_room}
-use Rattle.salvage.specs.Pieces.{pieces_of}
-use Rattle.salvage.specs.Kept.{lead_of, origin_for, kept_of, dropped_of, kept_in, dropped_in, sound_file}
+use Rattle.salvage.specs.Pieces.{piece_count, pieces_of}
+use Rattle.salvage.specs.Kept.{lead_of, origin_for, drop_number, is_kept, kept_of, dropped_of, kept_in, dropped_in, sound_file}
 use Rattle.salvage.specs.Calls.{salvage_start, salvage_room, salvage_end, salvage_checks, salvage_answer, salvage_call}
 use Rattle.salvage.proofs.PieceLaws.{lead_kept, missing_kept}
 use Rattle.salvage.proofs.KeptTables.{kept_all, kept_sound, limits_whole, writes_kept}
@@ -59,6 +60,29 @@ module _ (lead : Origin) (bs : List (List ℕ)) where
   kept_cut =
       let n : length (flatten (kept_of lead bs)) / 512 ≡ length (kept_of lead bs) = omega (arith, kept_bytes) in
       rw n (cut_joined 512 (kept_of lead bs) kept_whole)
+
+  -- no more are kept than there are, nor dropped
+  pub kept_few : length (kept_of lead bs) ≤ length bs
+  unfolding kept_of
+  kept_few = length_keep (is_kept lead) bs
+
+one_entry : (i n : ℕ) → length (entry i n) ≤ 1
+one_entry i n = go (eqb n 0)
+  where
+    go : (b : Bool) → length {A = Entry} (cond b [] (record { index = i; number = n } ∷ [])) ≤ 1
+    go true = omega arith
+    go false = omega arith
+
+pub dropped_few : (lead : Origin) (i : ℕ) (bs : List (List ℕ)) → length (dropped_of lead i bs) ≤ length bs
+unfolding dropped_of
+dropped_few lead i [] = omega arith
+dropped_few lead i (b ∷ bs) =
+    rw (length-append (entry i (drop_number lead b)) (dropped_of lead (i + 1) bs))
+    (omega (arith, one_entry i (drop_number lead b), dropped_few lead (i + 1) bs))
+
+-- of a file that is not too long there are at most 39 pieces
+pub pieces_few : (bytes : List ℕ) → length bytes ≤ most_file_bytes → length (pieces_of bytes) ≤ 39
+pieces_few bytes h = omega (arith, length_chunks 512 (piece_count (length bytes)) bytes)
 
 -- ---- what is saved: the bytes of the kept pieces, and the list of the others
 

@@ -11,6 +11,7 @@ ghost use Rattle.salvage.specs.Calls.{salvage_room, salvage_call, has_saved};
 ghost use Rattle.salvage.specs.Steps.AllKept.{AllKept};
 ghost use Rattle.salvage.specs.Steps.Saving.{saved_answer, kept_answer};
 
+use crate::indices::copy_indices;
 use crate::pieces::Pieces;
 use crate::sorter::sort_pieces;
 use blocks::{BLOCK_BYTES, MOST_FILE_BYTES, Origin};
@@ -81,7 +82,7 @@ fn put_saved(
     let entries = dropped.len();
     room_fault(need, entries, out.len(), indices.len(), numbers.len())?;
     let _ = blocks::write_file(holdings, placement, claims, lead, out);
-    indices[..entries].copy_from_slice(dropped);
+    copy_indices(indices, dropped);
     numbers[..entries].copy_from_slice(reasons);
     Ok(Saved {
         bytes: need,

@@ -3,6 +3,7 @@
 #![tactic(auto)]
 
 mod calls;
+mod indices;
 mod pieces;
 mod sorter;
 

@@ -87,7 +87,7 @@ length_marked (suc n) xs =
 
 -- so that the pass writes the whole table
 pub put_marked : (p : List ℕ) → put_at p 0 (marked_placement p) ≡ marked_placement p
-put_marked p = put_whole p (marked_placement p) (length_marked (length p / 32) p)
+put_marked p = put_whole p (marked_placement p) (omega (arith, length_marked (length p / 32) p))
 
 first_size : (n : ℕ) (xs : List ℕ) → 32 * suc n ≤ length xs → length (take 32 xs) ≡ 32
 first_size n xs h = simp length-take (omega arith)

@@ -14,11 +14,11 @@ use records::{Kind, LONG, Leg, PAID, RECORD_BYTES, Refusal, SHORT};
 // Where the mark stands in a record.
 const PAID_AT: usize = 25;
 
-// Whether the leg is an unplaced long with no mark.
+// Whether the leg is an unplaced long with no mark. By `&&`, and the group first: it tells most legs by itself.
 fn unpaid_long(leg: Leg) -> bool
     ensures { result ≡ unpaid_long leg }
 {
-    (leg.side == LONG) & (leg.group == 0) & !(leg.paid == PAID)
+    (leg.group == 0) && (leg.side == LONG) && !(leg.paid == PAID)
 }
 
 // Whether the leg is neither that nor an unplaced short.

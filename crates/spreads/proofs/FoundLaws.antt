@@ -9,7 +9,7 @@ use Rattle.records.specs.Tables.{legs_of}
 use Rattle.records.specs.declared.refusals.Refusal.{Refusal}
 use Rattle.spreads.specs.Spreads.{group_in, group_rule}
 use Rattle.spreads.specs.Strikes.{strikes_of}
-use Rattle.spreads.specs.Steps.Members.{legs_at}
+use Rattle.spreads.specs.Steps.Members.{MembersOf, legs_at}
 use Rattle.spreads.specs.Steps.Found.{IsFound}
 use Rattle.spreads.specs.declared.group.Found.{Found}
 use Rattle.spreads.specs.declared.prices.Worked.{Worked}
@@ -24,12 +24,14 @@ module _ (xs : List ℕ) (g : ℕ) (ms ps : List ℕ) {r : Result Found Refusal}
   pub is_refused : {refusal : Refusal} → r ≡ Err refusal → first_of (group_rule g (legs_of xs)) ≡ Err refusal
   is_refused e = rw e at f
 
-module _ {xs : List ℕ} {g : ℕ} {found : Found} {ms ps : List ℕ} (f : IsFound xs g found ms ps) where
-  pub found_legs : legs_at xs (take found.legs ms) ≡ group_in xs g
-  found_legs = members_are xs g f.members
+-- its legs and its strikes, whether it passed its rule or not
+module _ (xs : List ℕ) (g legs : ℕ) (ms : List ℕ) (members : MembersOf xs g (take legs ms)) where
+  pub found_legs : legs_at xs (take legs ms) ≡ group_in xs g
+  found_legs = members_are xs g members
 
-  pub found_prices : take found.strikes ps ≡ strikes_of (legs_at xs (take found.legs ms))
-  found_prices = f.prices ∙ ap strikes_of (sym found_legs)
+  pub found_prices : (strikes : ℕ) (ps : List ℕ) → take strikes ps ≡ strikes_of (group_in xs g)
+      → take strikes ps ≡ strikes_of (legs_at xs (take legs ms))
+  found_prices strikes ps prices = prices ∙ ap strikes_of (sym found_legs)
 
 -- an amount and the work that it took
 pub ap_worked : {w : Worked} {mills values : ℕ} → w.mills ≡ mills → w.values ≡ values → w ≡ record { mills = mills; values = values }

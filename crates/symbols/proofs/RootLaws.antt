@@ -4,14 +4,14 @@ use Rattle.std.specs.List.{find}
 use Rattle.std.specs.Simd.{first_chunks}
 use Prim.Native.Nat.{ℕ, zero, suc, ◌+◌, ◌/◌, ◌%◌, ◌≤◌, ◌<◌}
 use mathlib.Core.Path.{◌≡◌, refl}
-use mathlib.Core.Bool.{Bool, true, false, not, cond, ◌&&◌, and-eq-true_iff, and-true, and-false}
+use mathlib.Core.Bool.{Bool, true, false, not, cond, ◌&&◌, and-eq-true_iff, and-true, and-false, and_assoc}
 use mathlib.Core.List.{List, [], ◌∷◌, ◌++◌, append_assoc, append-nil}
 use native.Mathlib.Numerals.{add-one}
 use native.Mathlib.Omega.{arith}
 use lib.Dec.{eqb, ltb}
 use lib.ListN.{length, get_or, take, drop, length-take, length-drop, drop_of_length-le}
 use lib.Seq.{take-suc, drop-cons}
-use borrow.Author.Tests.{eqb-true, ne_eqb, not-true, lt-ltb, le-ltb, ltb-true, ltb-false}
+use borrow.Author.Tests.{eqb-true, eq-eqb, ne_eqb, not-true, lt-ltb, le-ltb, ltb-true, ltb-false}
 use Rattle.records.specs.Lists.{same, all_of}
 use Rattle.records.specs.Order.{ask, refuse, first_of}
 use Rattle.records.specs.Within.{within}
@@ -150,14 +150,10 @@ module _ (roots : List (List ℕ)) where
 
 -- ---- two terms compared, the underlying first
 
-underlying_first : (u s m z t : Bool) → (u && (s && (m && (z && t)))) ≡ (s && (m && (z && (t && (u && true)))))
-underlying_first true s m z t = simp and-true
-underlying_first false s m z t = simp and-false
-
-pub terms_eq : (a b : Terms)
-    → (eqb a.underlying b.underlying && (eqb a.style b.style && (eqb a.market b.market && (eqb a.size b.size && eqb a.settlement b.settlement)))) ≡ same_terms a b
+pub terms_rest : (a b : Terms) → a.underlying ≡ b.underlying
+    → (((eqb a.style b.style && eqb a.market b.market) && eqb a.size b.size) && eqb a.settlement b.settlement) ≡ same_terms a b
 unfolding same_terms same
-terms_eq a b = underlying_first (eqb a.underlying b.underlying) (eqb a.style b.style) (eqb a.market b.market) (eqb a.size b.size) (eqb a.settlement b.settlement)
+terms_rest a b h = simp (eq-eqb a.underlying b.underlying h, and-true, and_assoc)
 
 pub terms_apart : (a b : Terms) → (a.underlying ≡ b.underlying → ⊥) → false ≡ same_terms a b
 unfolding same_terms same

@@ -17,9 +17,8 @@ const MOST_ROOTS: usize = 256;
 // One entry of the table.
 pub(crate) type Root = [u8; ROOT_BYTES];
 
-// What a root stands for: numbers, as a leg of any bytes has them. Most terms differ in the underlying, so it stands first:
-// `==` looks at it first.
-#[derive(Clone, Copy, PartialEq)]
+// What a root stands for: numbers, as a leg of any bytes has them.
+#[derive(Clone, Copy)]
 pub struct Terms {
     pub underlying: u32,
     pub style: u8,
@@ -81,7 +80,12 @@ fn has_terms(root: &Root, terms: Terms) -> bool
     if underlying_of(root) != terms.underlying {
         return false;
     }
-    root_terms(root) == terms
+    let own = root_terms(root);
+    // One by one, so that the edit `terms_without_settlement` gets one of them wrong and no other.
+    (own.style == terms.style)
+        & (own.market == terms.market)
+        & (own.size == terms.size)
+        & (own.settlement == terms.settlement)
 }
 
 // Whether two entries have one root, or the same terms.

@@ -12,7 +12,8 @@ returns c =
       c.copy_from_slice.ensures.after ∙ c.to_le_bytes.ensures ∙ two_bytes l.group (omega arith),
       c.copy_from_slice-2.ensures.after ∙ c.to_le_bytes-2.ensures ∙ two_bytes l.size (omega arith),
       c.copy_from_slice-3.ensures.after ∙ c.to_le_bytes-3.ensures ∙ four_bytes l.underlying (omega arith),
-      c.copy_from_slice-4.ensures.after ∙ c.to_le_bytes-4.ensures ∙ four_bytes l.strike (omega arith),
-      c.copy_from_slice-5.ensures.after ∙ c.to_le_bytes-5.ensures ∙ four_bytes l.expiry (omega arith),
-      c.copy_from_slice-6.ensures.after ∙ c.to_le_bytes-6.ensures ∙ four_bytes l.contracts.0 (omega arith),
+      c.copy_from_slice-4.ensures.after,
+      c.to_le_bytes-strike.ensures ∙ four_bytes l.strike (omega arith),
+      c.copy_from_slice-5.ensures.after ∙ c.to_le_bytes-4.ensures ∙ four_bytes l.expiry (omega arith),
+      c.copy_from_slice-6.ensures.after ∙ c.to_le_bytes-5.ensures ∙ four_bytes l.contracts.0 (omega arith),
     )

@@ -1,5 +1,5 @@
 use Rattle.std.specs.Prelude.{Result, ℕ}
-use Rattle.std.proofs.Common.{◌≡◌, refl, sym, ap, ◌∙◌, length, arith}
+use Rattle.std.proofs.Common.{◌≡◌, sym, ap, ◌∙◌, length, arith}
 use lib.Seq.{length-take-le}
 use Rattle.records.specs.Written.{left_after}
 use Rattle.records.specs.declared.refusals.Refusal.{Refusal}
@@ -19,25 +19,18 @@ returns-in_err-room_fault c =
     let e = handed_on c.from_residual.result c.in_err-room_fault.field-0.0 c.from_residual.ensures.1 in
     record { value = e ∙ rw fault; out_after = rw e; indices_after = rw e; numbers_after = rw e }
 
+pub copy_indices-requires : goal.copy_indices-requires
+copy_indices-requires c = (room_pass _ _ _ _ _ (sym c.room_fault.ensures ∙ c.in_ok-room_fault.was)).1
+
 pub slice_bounds-copy_from_slice-end : goal.slice_bounds-copy_from_slice-end
-slice_bounds-copy_from_slice-end c = (room_pass _ _ _ _ _ (sym c.room_fault.ensures ∙ c.in_ok-room_fault.was)).1
+slice_bounds-copy_from_slice-end c = (room_pass _ _ _ _ _ (sym c.room_fault.ensures ∙ c.in_ok-room_fault.was)).2
 
 pub slice_bounds-copy_from_slice-end-2 : goal.slice_bounds-copy_from_slice-end-2
 slice_bounds-copy_from_slice-end-2 c =
-    sym (length-take-le _ _ (room_pass _ _ _ _ _ (sym c.room_fault.ensures ∙ c.in_ok-room_fault.was)).1)
-
-pub copy_from_slice-requires : goal.copy_from_slice-requires
-copy_from_slice-requires c = length-take-le _ _ (room_pass _ _ _ _ _ (sym c.room_fault.ensures ∙ c.in_ok-room_fault.was)).1
-
-pub slice_bounds-copy_from_slice-end-3 : goal.slice_bounds-copy_from_slice-end-3
-slice_bounds-copy_from_slice-end-3 c = (room_pass _ _ _ _ _ (sym c.room_fault.ensures ∙ c.in_ok-room_fault.was)).2
-
-pub slice_bounds-copy_from_slice-end-4 : goal.slice_bounds-copy_from_slice-end-4
-slice_bounds-copy_from_slice-end-4 c =
     sym (length-take-le _ _ (room_pass _ _ _ _ _ (sym c.room_fault.ensures ∙ c.in_ok-room_fault.was)).2)
 
-pub copy_from_slice-requires-2 : goal.copy_from_slice-requires-2
-copy_from_slice-requires-2 c =
+pub copy_from_slice-requires : goal.copy_from_slice-requires
+copy_from_slice-requires c =
     length-take-le _ _ (room_pass _ _ _ _ _ (sym c.room_fault.ensures ∙ c.in_ok-room_fault.was)).2 ∙ sym c.requires.reasons_len
 
 pub returns : goal.returns
@@ -51,6 +44,6 @@ returns c =
     record {
       value = rw (pass, need);
       out_after = c.write_file.ensures.1 ∙ ap (λ (r : Result ℕ Refusal). left_after (has_written r) (file_of a.lead t) out) (c.write_file.ensures.0 ∙ done);
-      indices_after = rw c.copy_from_slice.ensures.after (put_first a.indices.now a.dropped.now (length a.dropped.now) refl);
-      numbers_after = rw c.copy_from_slice-2.ensures.after (put_first a.numbers.now a.reasons.now (length a.dropped.now) (sym c.requires.reasons_len));
+      indices_after = c.copy_indices.ensures;
+      numbers_after = rw c.copy_from_slice.ensures.after (put_first a.numbers.now a.reasons.now (length a.dropped.now) (sym c.requires.reasons_len));
     }
